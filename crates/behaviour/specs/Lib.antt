@@ -1,0 +1,10 @@
+pub mod Run
+pub mod Runs
+pub mod Gives
+pub mod Exists
+pub mod Unique
+pub mod Meaning
+pub mod Fits
+pub mod States
+pub mod Alike
+pub mod Same

@@ -1,0 +1,7 @@
+pub mod Lists
+pub mod Paths
+pub mod TableRule
+pub mod Parts
+pub mod BelowLaws
+pub mod ListsLaws
+pub mod DistinctLaws

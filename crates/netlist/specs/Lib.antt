@@ -1,0 +1,15 @@
+pub mod Net
+pub mod Reach
+pub mod Verdict
+pub mod Field
+pub mod NodeField
+pub mod TableField
+pub mod Scan
+pub mod ScanLaws
+pub mod TableLaws
+pub mod File
+pub mod Examples
+pub mod Rank
+pub mod ReachLaws
+pub mod Checks
+pub mod VerdictLaws

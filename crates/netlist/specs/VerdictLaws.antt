@@ -1,0 +1,315 @@
+-- The reader finds nothing to refuse just where the netlist is well formed. Assumes nothing.
+use mathlib.Core.Path.{_≡_, refl, sym, ap, _∙_}
+use mathlib.Core.Logic.{_⊎_, ⊎-elim}
+use mathlib.Core.Bool.{Bool, true, false, not, _&&_, _||_, true≢false, false≢true}
+use mathlib.Core.List.{List, [], _∷_}
+use Prim.Native.Nat.{ℕ, _+_, _^_, _≤_, _<_}
+use native.Mathlib.Omega.{arith}
+use lib.ListN.{length, getD}
+use lib.Dec.{eqb, leb, ltb, leb→le, le→leb, ltb→lt, lt→ltb}
+use Rattle.words.specs.declared.Op.{Op}
+use Rattle.words.specs.declared.Op.the-variants.{Constant, Not, And, Or, Xor, Add, Subtract, Equal, Less, Choose, Part, Join}
+use Rattle.netlist.specs.declared.Memory.{Memory}
+use Rattle.netlist.specs.declared.Element.{Element}
+use Rattle.netlist.specs.declared.Element.the-variants.{Input, Output, Register, Async, Clocked, Gate}
+use Rattle.lists.specs.Lists.{anyBelow, allBelow, lowest}
+use Rattle.lists.specs.BelowLaws.{T→true, true→T, true-or-false, and-left, and-right, eqb-true, eqb-self, anyBelow-intro, anyBelow-elim, anyBelow-none, allBelow-elim, lowest-none, lowest-all}
+use Rattle.netlist.specs.Net.{Body, Words, Table, tableNo, spelledIn, spelled, Net, size, elementAt, widthAt, source, operands, isInput, isOutput, Class, inRegisters, inClock, Sourced}
+use Rattle.netlist.specs.Reach.{Reads, readsTest}
+use Rattle.netlist.specs.Reach.{reachesItself}
+use Rattle.netlist.specs.declared.Verdict.the-variants.{Fine, Refuses}
+use Rattle.netlist.specs.Verdict.{tableThere, badSource, opWidths, memoryRight, widthsRight, badWidth, unread, inLoop, inRing, Stage, verdict, readerStages, readerVerdict, opFits, wordFits, bodyFits, goodTable, goodNode, goodFields}
+use Rattle.netlist.specs.Rank.{Through, once, then}
+use Rattle.netlist.specs.Checks.{OpWidths, OpFits, MemoryWidths, Widths, HasTable, tableIn, TableFits, Fits, FieldsFit, WellFormed}
+use Rattle.netlist.specs.ReachLaws.{reaches-itself-iff}
+
+eqb-from : {m n : ℕ} → m ≡ n → eqb m n ≡ true
+eqb-from {m} e = ap (eqb m) (sym e) ∙ eqb-self m
+
+both : (a b : Bool) → a ≡ true → b ≡ true → (a && b) ≡ true
+both a b e f = rw e f
+
+not-true : (b : Bool) → not b ≡ false → b ≡ true
+not-true true e = refl
+not-true false e = absurd (true≢false e)
+
+not-false : (b : Bool) → b ≡ true → not b ≡ false
+not-false b e = rw e
+
+or-left : (a b : Bool) → (a || b) ≡ false → a ≡ false
+or-left true b e = absurd (true≢false e)
+or-left false b e = refl
+
+or-right : (a b : Bool) → (a || b) ≡ false → b ≡ false
+or-right true b e = absurd (true≢false e)
+or-right false b e = e
+
+neither : (a b : Bool) → a ≡ false → b ≡ false → (a || b) ≡ false
+neither a b e f = rw e f
+
+none-below : (n : ℕ) (q : ℕ → Bool) → ((j : ℕ) → j < n → q j ≡ false) → anyBelow n q ≡ false
+none-below n q h = ⊎-elim (λ t. let r = anyBelow-elim n q t in absurd (false≢true (sym (h (r .0) (r .1)) ∙ r .2))) (λ t. t) (true-or-false (anyBelow n q))
+
+-- ---- 7
+
+module _ (w : ℕ) (ws : ℕ → ℕ) where
+  op-right : (o : Op) → opWidths o w ws ≡ true → OpWidths o w ws
+  op-right (Constant c) e = tt
+  op-right Not e = eqb-true e
+  op-right And e = (eqb-true (and-left (eqb (ws 0) w) (eqb (ws 1) w) e), eqb-true (and-right (eqb (ws 0) w) (eqb (ws 1) w) e))
+  op-right Or e = (eqb-true (and-left (eqb (ws 0) w) (eqb (ws 1) w) e), eqb-true (and-right (eqb (ws 0) w) (eqb (ws 1) w) e))
+  op-right Xor e = (eqb-true (and-left (eqb (ws 0) w) (eqb (ws 1) w) e), eqb-true (and-right (eqb (ws 0) w) (eqb (ws 1) w) e))
+  op-right Add e = (eqb-true (and-left (eqb (ws 0) w) (eqb (ws 1) w) e), eqb-true (and-right (eqb (ws 0) w) (eqb (ws 1) w) e))
+  op-right Subtract e = (eqb-true (and-left (eqb (ws 0) w) (eqb (ws 1) w) e), eqb-true (and-right (eqb (ws 0) w) (eqb (ws 1) w) e))
+  op-right Equal e = (eqb-true (and-left (eqb (ws 0) (ws 1)) (eqb w 1) e), eqb-true (and-right (eqb (ws 0) (ws 1)) (eqb w 1) e))
+  op-right Less e = (eqb-true (and-left (eqb (ws 0) (ws 1)) (eqb w 1) e), eqb-true (and-right (eqb (ws 0) (ws 1)) (eqb w 1) e))
+  op-right Choose e =
+      let r = and-right (eqb (ws 0) 1) (eqb (ws 1) w && eqb (ws 2) w) e in
+      (eqb-true (and-left (eqb (ws 0) 1) (eqb (ws 1) w && eqb (ws 2) w) e), eqb-true (and-left (eqb (ws 1) w) (eqb (ws 2) w) r), eqb-true (and-right (eqb (ws 1) w) (eqb (ws 2) w) r))
+  op-right (Part b) e = leb→le (b + w) (ws 0) (true→T e)
+  op-right Join e = eqb-true e
+
+  right-op : (o : Op) → OpWidths o w ws → opWidths o w ws ≡ true
+  right-op (Constant c) r = refl
+  right-op Not r = eqb-from r
+  right-op And r = both (eqb (ws 0) w) (eqb (ws 1) w) (eqb-from (r .0)) (eqb-from (r .1))
+  right-op Or r = both (eqb (ws 0) w) (eqb (ws 1) w) (eqb-from (r .0)) (eqb-from (r .1))
+  right-op Xor r = both (eqb (ws 0) w) (eqb (ws 1) w) (eqb-from (r .0)) (eqb-from (r .1))
+  right-op Add r = both (eqb (ws 0) w) (eqb (ws 1) w) (eqb-from (r .0)) (eqb-from (r .1))
+  right-op Subtract r = both (eqb (ws 0) w) (eqb (ws 1) w) (eqb-from (r .0)) (eqb-from (r .1))
+  right-op Equal r = both (eqb (ws 0) (ws 1)) (eqb w 1) (eqb-from (r .0)) (eqb-from (r .1))
+  right-op Less r = both (eqb (ws 0) (ws 1)) (eqb w 1) (eqb-from (r .0)) (eqb-from (r .1))
+  right-op Choose r = both (eqb (ws 0) 1) (eqb (ws 1) w && eqb (ws 2) w) (eqb-from (r .0)) (both (eqb (ws 1) w) (eqb (ws 2) w) (eqb-from (r .1)) (eqb-from (r .2)))
+  right-op (Part b) r = T→true (le→leb (b + w) (ws 0) r)
+  right-op Join r = eqb-from r
+
+  memory-right : (t : Table) (m : Memory) → memoryRight t m w ws ≡ true → MemoryWidths t m w ws
+  memory-right t m e = (eqb-true (and-left (eqb (ws 0) (t .bits)) (eqb w (t .wide)) e), eqb-true (and-right (eqb (ws 0) (t .bits)) (eqb w (t .wide)) e))
+
+  right-memory : (t : Table) (m : Memory) → MemoryWidths t m w ws → memoryRight t m w ws ≡ true
+  right-memory t m r = both (eqb (ws 0) (t .bits)) (eqb w (t .wide)) (eqb-from (r .0)) (eqb-from (r .1))
+
+  widths-right : (ts : List Table) (e : Element) → widthsRight ts e w ws ≡ true → Widths ts e w ws
+  widths-right ts Input e = tt
+  widths-right ts Output e = eqb-true e
+  widths-right ts (Register r) e = eqb-true e
+  widths-right ts (Async m) e = memory-right (tableIn ts (tableNo m)) m e
+  widths-right ts (Clocked m r) e = memory-right (tableIn ts (tableNo m)) m e
+  widths-right ts (Gate o) e = op-right o e
+
+  right-widths : (ts : List Table) (e : Element) → Widths ts e w ws → widthsRight ts e w ws ≡ true
+  right-widths ts Input r = refl
+  right-widths ts Output r = eqb-from r
+  right-widths ts (Register q) r = eqb-from r
+  right-widths ts (Async m) r = right-memory (tableIn ts (tableNo m)) m r
+  right-widths ts (Clocked m q) r = right-memory (tableIn ts (tableNo m)) m r
+  right-widths ts (Gate o) r = right-op o r
+
+table-there : (ts : List Table) (e : Element) → tableThere ts e ≡ true → HasTable ts e
+table-there ts Input h = tt
+table-there ts Output h = tt
+table-there ts (Register r) h = tt
+table-there ts (Async m) h = ltb→lt (tableNo m) (length ts) (true→T h)
+table-there ts (Clocked m r) h = ltb→lt (tableNo m) (length ts) (true→T h)
+table-there ts (Gate o) h = tt
+
+there-table : (ts : List Table) (e : Element) → HasTable ts e → tableThere ts e ≡ true
+there-table ts Input h = refl
+there-table ts Output h = refl
+there-table ts (Register r) h = refl
+there-table ts (Async m) h = T→true (lt→ltb (tableNo m) (length ts) h)
+there-table ts (Clocked m r) h = T→true (lt→ltb (tableNo m) (length ts) h)
+there-table ts (Gate o) h = refl
+
+-- ---- a stage
+
+pub refuses-not : {a b : ℕ} → Refuses a b ≡ Fine → ⊥
+refuses-not e = let z : _≡_ {A = ℕ} 0 1 = cc in omega arith
+
+-- nothing is bad
+abbrev pub Clear : List Stage → Type 0
+Clear [] = Unit {0}
+Clear (s ∷ l) = ((v : ℕ) → v < s .over → s .bad v ≡ false) × Clear l
+
+pub fine-clear : (l : List Stage) → verdict l ≡ Fine → Clear l
+unfolding verdict
+fine-clear [] e = tt
+fine-clear (s ∷ l) e =
+    ⊎-elim (λ (t : ltb (lowest (s .over) (s .bad)) (s .over) ≡ true). absurd (refuses-not (rw (t, verdict) at e)))
+    (λ (t : ltb (lowest (s .over) (s .bad)) (s .over) ≡ false). (lowest-none (s .over) (s .bad) t, fine-clear l (rw (t, verdict) at e))) (true-or-false (ltb (lowest (s .over) (s .bad)) (s .over)))
+
+pub clear-fine : (l : List Stage) → Clear l → verdict l ≡ Fine
+unfolding verdict
+clear-fine [] c = refl
+clear-fine (s ∷ l) c = let t : ltb (lowest (s .over) (s .bad)) (s .over) ≡ false = lowest-all (s .over) (s .bad) (c .0) in rw (t, verdict) (clear-fine l (c .1))
+
+module _ (N : Net) where
+  source-test : (v : ℕ) → badSource N v ≡ false → HasTable (N .tables) (elementAt N v) × ((p : ℕ) → p < operands (elementAt N v) → (source N v p < size N) × (isOutput (elementAt N (source N v p)) ≡ false))
+  unfolding badSource
+  source-test v e =
+      let a = not (tableThere (N .tables) (elementAt N v)) in
+      let b = anyBelow (operands (elementAt N v)) (λ p. not (ltb (source N v p) (size N)) || isOutput (elementAt N (source N v p))) in (
+        table-there (N .tables) (elementAt N v) (not-true (tableThere (N .tables) (elementAt N v)) (or-left a b e)),
+        λ p q. let t = anyBelow-none (operands (elementAt N v)) (λ j. not (ltb (source N v j) (size N)) || isOutput (elementAt N (source N v j))) (or-right a b e) p q in (
+          ltb→lt (source N v p) (size N) (true→T (not-true (ltb (source N v p) (size N)) (or-left (not (ltb (source N v p) (size N))) (isOutput (elementAt N (source N v p))) t))),
+          or-right (not (ltb (source N v p) (size N))) (isOutput (elementAt N (source N v p))) t,
+        ),
+      )
+
+  test-source : (v : ℕ) → HasTable (N .tables) (elementAt N v) → ((p : ℕ) → p < operands (elementAt N v) → (source N v p < size N) × (isOutput (elementAt N (source N v p)) ≡ false)) → badSource N v ≡ false
+  unfolding badSource
+  test-source v t h =
+      neither (not (tableThere (N .tables) (elementAt N v))) (anyBelow (operands (elementAt N v)) (λ p. not (ltb (source N v p) (size N)) || isOutput (elementAt N (source N v p))))
+      (not-false (tableThere (N .tables) (elementAt N v)) (there-table (N .tables) (elementAt N v) t))
+      (none-below (operands (elementAt N v)) (λ p. not (ltb (source N v p) (size N)) || isOutput (elementAt N (source N v p)))
+      (λ p q. neither (not (ltb (source N v p) (size N))) (isOutput (elementAt N (source N v p))) (not-false (ltb (source N v p) (size N)) (T→true (lt→ltb (source N v p) (size N) (h p q .0)))) (h p q .1)))
+
+  unread-test : (v : ℕ) → unread N v ≡ false → isInput (elementAt N v) ≡ false → isOutput (elementAt N v) ≡ false → (x : ℕ) × Reads N x v
+  unfolding unread readsTest
+  unread-test v e i o =
+      let t : not (anyBelow (size N) (λ x. readsTest N x v)) ≡ false = rw o at (rw i at e) in
+      let r = anyBelow-elim (size N) (λ x. readsTest N x v) (not-true (anyBelow (size N) (λ x. readsTest N x v)) t) in
+      let s = anyBelow-elim (operands (elementAt N (r .0))) (λ p. eqb (source N (r .0) p) v) (r .2) in
+      (r .0, record { operand = s .0; inside = r .1; used = s .1; from = eqb-true (s .2) })
+
+  test-unread : (v : ℕ) → (isInput (elementAt N v) ≡ false → isOutput (elementAt N v) ≡ false → (x : ℕ) × Reads N x v) → unread N v ≡ false
+  unfolding unread readsTest
+  test-unread v h =
+      ⊎-elim (λ i. rw i refl)
+      (λ i. ⊎-elim (λ o. rw i (rw o refl)) (λ o. rw i (rw o (not-false (anyBelow (size N) (λ x. readsTest N x v)) (read-by (h i o))))) (true-or-false (isOutput (elementAt N v))))
+      (true-or-false (isInput (elementAt N v)))
+    where
+      read-by : (x : ℕ) × Reads N x v → anyBelow (size N) (λ x. readsTest N x v) ≡ true
+      read-by (x, r) = anyBelow-intro (size N) (λ y. readsTest N y v) x (r .inside) (anyBelow-intro (operands (elementAt N x)) (λ p. eqb (source N x p) v) (r .operand) (r .used) (eqb-from (r .from)))
+
+  -- the verdict, stage by stage
+  record Stages : Type 0 where
+    six : (v : ℕ) → v < size N → badSource N v ≡ false
+    seven : (v : ℕ) → v < size N → badWidth N v ≡ false
+    eight : (v : ℕ) → v < size N → unread N v ≡ false
+    nine : (v : ℕ) → v < size N → inLoop N v ≡ false
+    ten : (v : ℕ) → v < size N → inRing N v ≡ false
+
+  stages : readerVerdict N ≡ Fine → Stages
+  unfolding readerVerdict readerStages
+  stages e =
+      let c : Clear (readerStages N) = fine-clear (readerStages N) e in
+      record { six = c .0; seven = c .1 .0; eight = c .1 .1 .0; nine = c .1 .1 .1 .0; ten = c .1 .1 .1 .1 .0 }
+
+  staged : Stages → readerVerdict N ≡ Fine
+  unfolding readerVerdict readerStages
+  staged s = clear-fine (readerStages N) (s .six, (s .seven, (s .eight, (s .nine, (s .ten, tt)))))
+
+  stages-sourced : Stages → Sourced N
+  unfolding Sourced
+  stages-sourced s v p h q = source-test v (s .six v h) .1 p q .0
+
+  through-inside : (K : Class) {u v : ℕ} → Through K N u v → v < size N
+  through-inside K (once r) = r .inside
+  through-inside K (then w r) = r .inside
+
+  -- what the reader takes is well formed
+  pub reader-fine : FieldsFit N → readerVerdict N ≡ Fine → WellFormed N
+  unfolding badWidth inLoop inRing
+  reader-fine fit e =
+      let s : Stages = stages e in
+      record {
+        fields = fit;
+        sourced = stages-sourced s;
+        outputs-unread = λ v p h q. source-test v (s .six v h) .1 p q .1;
+        has-table = λ v h. source-test v (s .six v h) .0;
+        widths = λ v h. widths-right (widthAt N v) (λ p. widthAt N (source N v p)) (N .tables) (elementAt N v) (not-true _ (s .seven v h));
+        read = λ v h i o. unread-test v (s .eight v h) i o;
+        no-loop = λ v w. let h : v < size N = through-inside inClock w in true≢false (sym (reaches-itself-iff inClock N (stages-sourced s) v h .1 w) ∙ s .nine v h);
+        no-ring = λ v w. let h : v < size N = through-inside inRegisters w in true≢false (sym (reaches-itself-iff inRegisters N (stages-sourced s) v h .1 w) ∙ s .ten v h);
+      }
+
+  -- and what is well formed the reader takes
+  pub fine-reader : WellFormed N → readerVerdict N ≡ Fine
+  unfolding badWidth inLoop inRing Sourced
+  fine-reader wf = staged (record {
+    six = λ v h. test-source v (wf .has-table v h) (λ p q. (wf .sourced v p h q, wf .outputs-unread v p h q));
+    seven = λ v h. not-false _ (right-widths (widthAt N v) (λ p. widthAt N (source N v p)) (N .tables) (elementAt N v) (wf .widths v h));
+    eight = λ v h. test-unread v (wf .read v h);
+    nine = λ v h. ⊎-elim (λ t. absurd (wf .no-loop v (reaches-itself-iff inClock N (wf .sourced) v h .0 t))) (λ t. t) (true-or-false (reachesItself inClock N v));
+    ten = λ v h. ⊎-elim (λ t. absurd (wf .no-ring v (reaches-itself-iff inRegisters N (wf .sourced) v h .0 t))) (λ t. t) (true-or-false (reachesItself inRegisters N v));
+  })
+
+-- ---- 4 and 5
+
+op-fits : (o : Op) (w : ℕ) → opFits o w ≡ true → OpFits o w
+op-fits (Constant c) w e = ltb→lt c (2 ^ w) (true→T e)
+op-fits Not w e = tt
+op-fits And w e = tt
+op-fits Or w e = tt
+op-fits Xor w e = tt
+op-fits Add w e = tt
+op-fits Subtract w e = tt
+op-fits Equal w e = tt
+op-fits Less w e = tt
+op-fits Choose w e = tt
+op-fits (Part b) w e = tt
+op-fits Join w e = tt
+
+word-fits : (e : Element) (w : ℕ) → wordFits e w ≡ true → Fits e w
+word-fits Input w h = tt
+word-fits Output w h = tt
+word-fits (Register r) w h = ltb→lt r (2 ^ w) (true→T h)
+word-fits (Async m) w h = tt
+word-fits (Clocked m r) w h = ltb→lt r (2 ^ w) (true→T h)
+word-fits (Gate o) w h = op-fits o w h
+
+body-fits : (b : Body) (n m : ℕ) → bodyFits b n m ≡ true → (length (spelledIn n b) ≡ n) × ((a : ℕ) → a < length (spelledIn n b) → getD (spelledIn n b) a 0 < m)
+body-fits (Words l) n m e =
+    let k = eqb (length l) n in
+    let f = allBelow (length l) (λ i. ltb (getD l i 0) m) in
+    (eqb-true (and-left k f e), λ i h. ltb→lt (getD l i 0) m (true→T (allBelow-elim (length l) (λ j. ltb (getD l j 0) m) (and-right k f e) i h)))
+
+good-table : (t : Table) → goodTable t ≡ true → TableFits t
+unfolding goodTable spelled
+good-table t e =
+    let l = leb 1 (t .bits) in
+    let h = leb (t .bits) 10 in
+    let l′ = leb 1 (t .wide) in
+    let h′ = leb (t .wide) 16 in
+    let b = bodyFits (t .body) (2 ^ t .bits) (2 ^ t .wide) in
+    let r : ((l′ && h′) && b) ≡ true = and-right (l && h) ((l′ && h′) && b) e in
+    let lh : (l && h) ≡ true = and-left (l && h) ((l′ && h′) && b) e in
+    let lh′ : (l′ && h′) ≡ true = and-left (l′ && h′) b r in
+    let w = body-fits (t .body) (2 ^ t .bits) (2 ^ t .wide) (and-right (l′ && h′) b r) in
+    record {
+      bits-low = leb→le 1 (t .bits) (true→T (and-left l h lh));
+      bits-high = leb→le (t .bits) 10 (true→T (and-right l h lh));
+      wide-low = leb→le 1 (t .wide) (true→T (and-left l′ h′ lh′));
+      wide-high = leb→le (t .wide) 16 (true→T (and-right l′ h′ lh′));
+      all-words = w .0;
+      each-fits = w .1;
+    }
+
+module _ (N : Net) where
+  good-node : (v : ℕ) → goodNode N v ≡ true → (1 ≤ widthAt N v) × (widthAt N v ≤ 16) × Fits (elementAt N v) (widthAt N v)
+  unfolding goodNode
+  good-node v e =
+      let l = leb 1 (widthAt N v) in
+      let h = leb (widthAt N v) 16 in
+      let f = wordFits (elementAt N v) (widthAt N v) in
+      let lh : (l && h) ≡ true = and-left (l && h) f e in
+      (leb→le 1 (widthAt N v) (true→T (and-left l h lh)), leb→le (widthAt N v) 16 (true→T (and-right l h lh)), word-fits (elementAt N v) (widthAt N v) (and-right (l && h) f e))
+
+  pub good-fields : goodFields N ≡ true → FieldsFit N
+  unfolding goodFields
+  good-fields e =
+      let a = leb (length (N .tables)) 16 in
+      let b = allBelow (length (N .tables)) (λ m. goodTable (tableIn (N .tables) m)) in
+      let c = leb (size N) 1024 in
+      let d = allBelow (size N) (goodNode N) in
+      let ab : (a && b) ≡ true = and-left (a && b) (c && d) e in
+      let cd : (c && d) ≡ true = and-right (a && b) (c && d) e in
+      let good : (v : ℕ) → v < size N → goodNode N v ≡ true = allBelow-elim (size N) (goodNode N) (and-right c d cd) in
+      record {
+        bounds = record { tables = leb→le (length (N .tables)) 16 (true→T (and-left a b ab)); nodes = leb→le (size N) 1024 (true→T (and-left c d cd)) };
+        tables-fit = λ m h. good-table (tableIn (N .tables) m) (allBelow-elim (length (N .tables)) (λ k. goodTable (tableIn (N .tables) k)) (and-right a b ab) m h);
+        width-low = λ v h. good-node v (good v h) .0;
+        width-high = λ v h. good-node v (good v h) .1;
+        word-fits = λ v h. good-node v (good v h) .2;
+      }

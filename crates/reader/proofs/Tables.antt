@@ -1,0 +1,44 @@
+-- All words of a table fit where the largest does. Assumes nothing.
+use mathlib.Core.Path.{_≡_, sym, ap, ap₂, _∙_}
+use mathlib.Core.Logic.{⊎-elim}
+use mathlib.Core.Bool.{Bool, _&&_}
+use mathlib.Core.List.{List}
+use Prim.Native.Nat.{ℕ, zero, suc, _+_, _-_, _*_, _/_, _^_, max}
+use native.Mathlib.Omega.{arith}
+use lib.Pow.{pow-pos}
+use lib.ListN.{length, getD, take, drop, length-drop}
+use lib.Seq.{getD-drop, take-all}
+use lib.Dec.{ltb}
+use borrow.Author.Tests.{lt-ltb, le-ltb}
+use Rattle.lists.specs.Lists.{largest, allBelow}
+use Rattle.lists.specs.BelowLaws.{lt-or-le}
+use Rattle.words.specs.Words.{fits, word}
+use Rattle.netlist.specs.TableField.{wordAt}
+
+max-below : (a b m : ℕ) → ltb (max a b) m ≡ (ltb b m && ltb a m)
+max-below a b m =
+    ⊎-elim
+    (λ l. ⊎-elim (λ k. lt-ltb (max a b) m (omega arith) ∙ sym (ap₂ _&&_ (lt-ltb b m l) (lt-ltb a m k))) (λ k. le-ltb (max a b) m (omega arith) ∙ sym (ap₂ _&&_ (lt-ltb b m l) (le-ltb a m k))) (lt-or-le a m))
+    (λ l. le-ltb (max a b) m (omega arith) ∙ sym (ap (λ (t : Bool). t && ltb a m) (le-ltb b m l)))
+    (lt-or-le b m)
+
+pub largest-fits : (w : ℕ) (h g : ℕ → ℕ) → ((a : ℕ) → h a ≡ g a) → (n : ℕ) → fits (largest n h) w ≡ allBelow n (λ a. fits (g a) w)
+largest-fits w h g same zero = lt-ltb 0 (2 ^ w) (pow-pos w)
+largest-fits w h g same (suc n) =
+    max-below (largest n h) (h n) (2 ^ w) ∙ ap₂ _&&_ (ap (λ (v : ℕ). fits v w) (same n)) (largest-fits w h g same n)
+
+-- the words behind a table's two first bytes
+behind : (c : List ℕ) (a : ℕ) → word (drop 2 c) (2 * a) ≡ wordAt c a
+behind c a =
+    let next : 2 + (2 * a + 1) ≡ 2 + 2 * a + 1 = omega arith in
+    ap₂ (λ (x y : ℕ). x * 256 + y) (getD-drop 2 c (2 * a) 0) (getD-drop 2 c (2 * a + 1) 0 ∙ ap (λ (k : ℕ). getD c k 0) next)
+
+-- the largest word of the part from the third byte on tells of all words
+pub words-fit : (c : List ℕ) (n w : ℕ) → length c ≡ 2 + 2 * n
+    → fits (largest (length (take (length c - 2) (drop 2 c)) / 2) (λ a. word (take (length c - 2) (drop 2 c)) (2 * a))) w ≡ allBelow n (λ a. fits (wordAt c a) w)
+words-fit c n w e =
+    let whole : take (length c - 2) (drop 2 c) ≡ drop 2 c = take-all (length c - 2) (drop 2 c) (omega (arith, length-drop 2 c)) in
+    let half : length (drop 2 c) / 2 ≡ n = omega (arith, length-drop 2 c) in
+    ap (λ (r : List ℕ). fits (largest (length r / 2) (λ a. word r (2 * a))) w) whole
+    ∙ ap (λ (k : ℕ). fits (largest k (λ a. word (drop 2 c) (2 * a))) w) half
+    ∙ largest-fits w (λ a. word (drop 2 c) (2 * a)) (wordAt c) (behind c) n
