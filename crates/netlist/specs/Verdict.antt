@@ -24,10 +24,12 @@ tableThere ts (Async m) = ltb (tableNo m) (length ts)
 tableThere ts (Clocked m r) = ltb (tableNo m) (length ts)
 tableThere ts (Gate o) = true
 
+-- u is no node, or an output port
+abbrev pub noSource : Net → ℕ → Bool
+noSource N u = not (ltb u (size N)) || isOutput (elementAt N u)
+
 unfoldable pub badSource : Net → ℕ → Bool
-badSource N v =
-    not (tableThere (N .tables) (elementAt N v))
-    || anyBelow (operands (elementAt N v)) (λ p. not (ltb (source N v p) (size N)) || isOutput (elementAt N (source N v p)))
+badSource N v = not (tableThere (N .tables) (elementAt N v)) || anyBelow (operands (elementAt N v)) (λ p. noSource N (source N v p))
 
 -- 7: width rule broken
 abbrev pub opWidths : Op → ℕ → (ℕ → ℕ) → Bool

@@ -200,9 +200,13 @@ module _ (N : Net) where
   unfolding readerVerdict readerStages
   staged s = clear-fine (readerStages N) (s .six, (s .seven, (s .eight, (s .nine, (s .ten, tt)))))
 
-  stages-sourced : Stages → Sourced N
+  -- what check 6 leaves
+  pub six-sourced : ((v : ℕ) → v < size N → badSource N v ≡ false) → Sourced N
   unfolding Sourced
-  stages-sourced s v p h q = source-test v (s .six v h) .1 p q .0
+  six-sourced six v p h q = source-test v (six v h) .1 p q .0
+
+  stages-sourced : Stages → Sourced N
+  stages-sourced s = six-sourced (s .six)
 
   through-inside : (K : Class) {u v : ℕ} → Through K N u v → v < size N
   through-inside K (once r) = r .inside

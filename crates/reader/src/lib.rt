@@ -215,6 +215,14 @@ pub fn node_at(file: &[u8], at: usize) -> Node
     node_of(&file[from..to]).node
 }
 
+// Its width alone.
+pub fn width_at(file: &[u8], at: usize) -> u8
+    requires { ⌜ NodeAt (now file) at ⌝ }
+    ensures { λ r. ⌜ r ≡ nodeIn (now (file .entry)) at .width ⌝ }
+{
+    file[at + 4]
+}
+
 // Of the table whose field stands at an offset: its address bits, its width, and its words as a part of the file.
 pub fn table_bits(file: &[u8], at: usize) -> u8
     requires { ⌜ TableAt (now file) at ⌝ }

@@ -1,0 +1,74 @@
+-- What opening tells, and the part of the file that holds the words.
+use mathlib.Core.Path.{_∙_}
+use native.Mathlib.Omega.{arith}
+use borrow.Author.Needs.{needs}
+use Rattle.checks.specs.Open.{taken}
+use Rattle.checks.proofs.Opens.{opened-refused, opened-fields}
+use Rattle.checks.proofs.Serves.{words-refused, table-there, served-words, no-words}
+use Rattle.checks.proofs.table_words.Statement.{statement}
+use Rattle.checks.proofs.table_words.Tie as tie
+
+slice-aggregate-open-file : tie.Need-slice-aggregate-open-file
+slice-aggregate-open-file c = search needs
+
+slice-aggregate-open-file-2 : tie.Need-slice-aggregate-open-file-2
+slice-aggregate-open-file-2 c = search needs
+
+slice-aggregate-open-file-3 : tie.Need-slice-aggregate-open-file-3
+slice-aggregate-open-file-3 c = search needs
+
+open-file-requires : tie.Need-open-file-requires
+open-file-requires c κs = search needs
+
+enum-told : tie.Need-enum-told
+enum-told c = search needs
+
+slice-aggregate-result : tie.Need-slice-aggregate-result
+slice-aggregate-result c = search needs
+
+enum-known-t : tie.Need-enum-known-t
+enum-known-t c = search needs
+
+mul-wide : tie.Need-mul-wide
+mul-wide c = omega (arith, opened-fields (c .before .before .before .before .before .before .before .open-file .ensures) (c .before .before .t .given .1) .0, c .if1 .taken)
+
+array-read-wide : tie.Need-array-read-wide
+array-read-wide c = omega (arith, opened-fields (c .before .before .before .before .before .before .before .open-file .ensures) (c .before .before .t .given .1) .0, c .if1 .taken)
+
+wide-requires : tie.Need-wide-requires
+wide-requires c κs = search needs
+
+table-part-requires : tie.Need-table-part-requires
+table-part-requires c κs = table-there (c .before .before .before .before .before .before .before .before .open-file .ensures) (c .before .before .before .t .given .1) _ _ (c .before .if1 .taken) (c .wide .ensures .0)
+
+slice-aggregate-result-2 : tie.Need-slice-aggregate-result-2
+slice-aggregate-result-2 c = search needs
+
+returns : tie.Need-returns
+returns c = words-refused _ _ (opened-refused (c .before .before .before .before .before .before .open-file .ensures) (c .before .enum-told .given .1))
+
+returns-2 : tie.Need-returns-2
+returns-2 c = c .table-part .ensures ∙ served-words (c .before .before .before .before .before .before .before .before .before .open-file .ensures) (c .before .before .before .before .t .given .1) (λ i. omega (arith, c .before .before .before .before .before .before .before .before .before .before .before .before .before .shared-slice-known .given i)) _ _ (c .before .before .if1 .taken) (c .before .wide .ensures .0)
+
+returns-3 : tie.Need-returns-3
+returns-3 c = no-words (c .before .before .before .before .before .before .before .before .open-file .ensures) (c .before .before .before .t .given .1) _ (c .before .if1 .left)
+
+pub table-words-spec : {M : Type 1} → statement M
+table-words-spec =
+    tie.close
+    (tie.spec
+    slice-aggregate-open-file
+    slice-aggregate-open-file-2
+    slice-aggregate-open-file-3
+    open-file-requires
+    enum-told
+    slice-aggregate-result
+    enum-known-t
+    mul-wide
+    array-read-wide
+    wide-requires
+    table-part-requires
+    slice-aggregate-result-2
+    returns
+    returns-2
+    returns-3)

@@ -1,0 +1,152 @@
+// The reader's layer as run and rewriter see it: checks 1 to 10, a node by its number, a table's words.
+use cycles::lowest_cycle;
+use index::node;
+use index::wide;
+use netlist::Answer;
+use netlist::Element;
+use netlist::Node;
+use netlist::Scanned;
+use netlist::Verdict;
+use order::Steps;
+use reader::scan_fields;
+use reader::table_part;
+use rules::lowest_bad_source;
+use rules::lowest_bad_width;
+use rules::lowest_unread;
+ghost use mathlib.Core.Path.{_≡_};
+ghost use Prim.Native.Nat.{_≤_};
+ghost use lib.ListN.{length};
+ghost use Rattle.netlist.specs.Net.{inClock, Sourced};
+ghost use Rattle.netlist.specs.Verdict.{verdict, readerVerdict};
+ghost use Rattle.netlist.specs.ScanLaws.{Found};
+ghost use Rattle.netlist.specs.File.{netIn, fileVerdict, checkAnswer};
+ghost use Rattle.order.specs.Order.{Complete};
+ghost use Rattle.checks.specs.Open.{fromNine, Opened};
+ghost use Rattle.checks.specs.Services.{nodeOfFile, wordsOfFile};
+
+// A node, or why there is none. (An enum that holds an array is not covered: the answer stands beside the node.)
+pub struct NodeAnswer {
+    pub answer: Answer,
+    pub node: Node,
+}
+
+// Checks 9 and 10.
+fn cycles_verdict(file: &[u8], tables: &[u16], nodes: &[u16], order: &mut [u16]) -> Verdict
+    requires { ⌜ Found (now file) (now tables) (now nodes) × Sourced (netIn (now file) (now tables) (now nodes)) × (1024 ≤ length (now order)) ⌝ }
+    ensures { λ r. ⌜ (r ≡ verdict (fromNine (netIn (now (file .entry)) (now (tables .entry)) (now (nodes .entry)))))
+        × (r ≡ Verdict.Fine → Complete inClock (netIn (now (file .entry)) (now (tables .entry)) (now (nodes .entry))) (now (order .exit))) ⌝ }
+{
+    let n = nodes.len();
+    let loop_node = lowest_cycle(file, tables, nodes, Steps::InClock, order);
+    if loop_node < n {
+        return Verdict::Refuses(9, loop_node as u16);
+    }
+    let mut spare = [0u16; 1024];
+    let ring_node = lowest_cycle(file, tables, nodes, Steps::InRegisters, &mut spare);
+    if ring_node < n {
+        return Verdict::Refuses(10, ring_node as u16);
+    }
+    Verdict::Fine
+}
+
+// Checks 6 to 10.
+fn net_verdict(file: &[u8], tables: &[u16], nodes: &[u16], order: &mut [u16]) -> Verdict
+    requires { ⌜ Found (now file) (now tables) (now nodes) × (1024 ≤ length (now order)) ⌝ }
+    ensures { λ r. ⌜ (r ≡ readerVerdict (netIn (now (file .entry)) (now (tables .entry)) (now (nodes .entry))))
+        × (r ≡ Verdict.Fine → Complete inClock (netIn (now (file .entry)) (now (tables .entry)) (now (nodes .entry))) (now (order .exit))) ⌝ }
+{
+    let n = nodes.len();
+    let source = lowest_bad_source(file, tables, nodes);
+    if source < n {
+        return Verdict::Refuses(6, source as u16);
+    }
+    let width = lowest_bad_width(file, tables, nodes);
+    if width < n {
+        return Verdict::Refuses(7, width as u16);
+    }
+    let unread = lowest_unread(file, tables, nodes);
+    if unread < n {
+        return Verdict::Refuses(8, unread as u16);
+    }
+    cycles_verdict(file, tables, nodes, order)
+}
+
+// Checks 1 to 10, with the index of the file and an order of its nodes left in work areas for whoever goes on.
+pub fn open_file(file: &[u8], tables: &mut [u16], nodes: &mut [u16], order: &mut [u16]) -> Scanned
+    requires { ⌜ (16 ≤ length (now tables)) × (1024 ≤ length (now nodes)) × (1024 ≤ length (now order)) ⌝ }
+    ensures { λ r. ⌜ Opened (now (file .entry)) (now (tables .exit)) (now (nodes .exit)) (now (order .exit)) r ⌝ }
+{
+    match scan_fields(file, tables, nodes) {
+        Scanned::Refuse(number, place) => Scanned::Refuse(number, place),
+        Scanned::Fields(t, n) => match net_verdict(file, &tables[..t], &nodes[..n], order) {
+            Verdict::Refuses(number, place) => Scanned::Refuse(number, place),
+            Verdict::Fine => Scanned::Fields(t, n),
+        },
+    }
+}
+
+// Checks a file: accepted with its length, or the refusal.
+pub fn check_file(file: &[u8]) -> Answer
+    ensures { λ r. ⌜ r ≡ checkAnswer (now (file .entry)) ⌝ }
+{
+    let mut tables = [0u16; 16];
+    let mut nodes = [0u16; 1024];
+    let mut order = [0u16; 1024];
+    match open_file(file, &mut tables, &mut nodes, &mut order) {
+        Scanned::Refuse(number, place) => Answer::Refused(number, place),
+        Scanned::Fields(_, _) => Answer::Accepted(file.len()),
+    }
+}
+
+// Node v of a file.
+pub fn read_node(file: &[u8], v: usize) -> NodeAnswer
+    ensures { λ r. ⌜ r ≡ nodeOfFile (now (file .entry)) v ⌝ }
+{
+    let mut tables = [0u16; 16];
+    let mut nodes = [0u16; 1024];
+    let mut order = [0u16; 1024];
+    let none = Node {
+        element: Element::Input,
+        width: 0,
+        sources: [0, 0, 0],
+    };
+    match open_file(file, &mut tables, &mut nodes, &mut order) {
+        Scanned::Refuse(number, place) => NodeAnswer {
+            answer: Answer::Refused(number, place),
+            node: none,
+        },
+        Scanned::Fields(t, n) => {
+            if v < n {
+                let found = node(file, &tables[..t], &nodes[..n], v);
+                NodeAnswer {
+                    answer: Answer::Accepted(n),
+                    node: found,
+                }
+            } else {
+                NodeAnswer {
+                    answer: Answer::Refused(6, 65535),
+                    node: none,
+                }
+            }
+        }
+    }
+}
+
+// The words of table k, as the part of the caller's file that holds them.
+pub fn table_words(file: &[u8], k: usize) -> &[u8]
+    ensures { λ r. ⌜ now r ≡ wordsOfFile (now (file .entry)) k ⌝ }
+{
+    let mut tables = [0u16; 16];
+    let mut nodes = [0u16; 1024];
+    let mut order = [0u16; 1024];
+    match open_file(file, &mut tables, &mut nodes, &mut order) {
+        Scanned::Refuse(_, _) => &file[..0],
+        Scanned::Fields(t, _) => {
+            if k < t {
+                table_part(file, wide(tables[k]))
+            } else {
+                &file[..0]
+            }
+        }
+    }
+}

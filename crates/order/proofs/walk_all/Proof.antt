@@ -1,0 +1,62 @@
+-- The loop's invariant: so many are placed.
+use mathlib.Core.Path.{_≡_, refl, sym, _∙_}
+use Prim.Native.Nat.{ℕ, _-_}
+use native.Mathlib.Omega.{arith}
+use lib.ListN.{length, length-replicate}
+use Rattle.netlist.specs.File.{netIn}
+use Rattle.order.specs.Order.{classOf, Placed}
+use Rattle.order.proofs.walk_all.Statement.{statement}
+use Rattle.order.proofs.walk_all.Tie as tie
+
+abbrev Inv-loop : tie.InvT-loop
+Inv-loop file tables nodes steps flags₀ order₀ stack₀ met₀ placed₀ root₀ flags order stack met placed root = (length flags ≡ length flags₀) × (length order ≡ length order₀) × (length stack ≡ 1024) × (length met ≡ 1024) × Placed (classOf steps) (netIn file tables nodes) flags order placed
+
+abbrev μ-loop : tie.MeasureT-loop
+μ-loop file tables nodes steps flags₀ order₀ stack₀ met₀ placed₀ root₀ flags order stack met placed root = length nodes - root
+
+loop-holds : tie.Need-loop-holds Inv-loop μ-loop
+loop-holds c = (refl, refl, length-replicate {A = ℕ} 1024 0, length-replicate {A = ℕ} 1024 0, c .before .before .before .before .before .pre .2)
+
+slice-aggregate-walk-from : tie.Need-slice-aggregate-walk-from Inv-loop μ-loop
+slice-aggregate-walk-from c = sym (c .before .before .before .before .loop .inv .2)
+
+slice-aggregate-walk-from-2 : tie.Need-slice-aggregate-walk-from-2 Inv-loop μ-loop
+slice-aggregate-walk-from-2 c = sym (c .before .before .before .before .before .loop .inv .3)
+
+walk-from-requires : tie.Need-walk-from-requires Inv-loop μ-loop
+walk-from-requires c κs = (c .before .before .before .before .before .before .before .before .before .before .before .pre .0, c .before .before .before .before .before .before .before .before .before .before .before .pre .1, c .before .before .before .before .loop-test .taken, c .before .before .before .before .before .loop .inv .4)
+
+add-root : tie.Need-add-root Inv-loop μ-loop
+add-root c = omega arith
+
+loop-less : tie.Need-loop-less Inv-loop μ-loop
+loop-less c = omega arith
+
+loop-again : tie.Need-loop-again Inv-loop μ-loop
+loop-again c = (c .before .before .before .before .before .before .walk-from .kept .1 .1 .1 .1 .1 .0 ∙ c .before .before .before .before .before .before .before .before .before .before .before .before .loop .inv .0, c .before .before .before .before .before .before .walk-from .kept .1 .1 .1 .1 .1 .1 .0 ∙ c .before .before .before .before .before .before .before .before .before .before .before .before .loop .inv .1, c .before .before .before .before .before .before .walk-from .kept .1 .1 .1 .1 .1 .1 .1 .0 ∙ c .before .before .before .before .before .before .before .before .before .before .before .before .loop .inv .2, c .before .before .before .before .before .before .walk-from .kept .1 .1 .1 .1 .1 .1 .1 .1 .0 ∙ c .before .before .before .before .before .before .before .before .before .before .before .before .loop .inv .3, c .before .before .before .before .before .before .walk-from .ensures)
+
+same-length : tie.Need-same-length Inv-loop μ-loop
+same-length c = c .before .loop .inv .0
+
+same-length-2 : tie.Need-same-length-2 Inv-loop μ-loop
+same-length-2 c = c .before .loop .inv .1
+
+returns : tie.Need-returns Inv-loop μ-loop
+returns c = c .before .loop .inv .4
+
+pub walk-all-spec : {M : Type 1} → statement M
+walk-all-spec =
+    tie.close
+    (tie.spec
+    Inv-loop
+    μ-loop
+    loop-holds
+    slice-aggregate-walk-from
+    slice-aggregate-walk-from-2
+    walk-from-requires
+    add-root
+    loop-less
+    loop-again
+    same-length
+    same-length-2
+    returns)

@@ -1,0 +1,366 @@
+// Puts the nodes of an indexed netlist into an order in which each comes after what it reads within the clock (or among registers).
+// A depth-first walk proposes the order and nobody trusts it: a node is placed only where all that it reads is placed.
+use index::node;
+use index::wide;
+use netlist::Element;
+use nodes::source_count;
+ghost use mathlib.Core.Path.{_≡_};
+ghost use Prim.Native.Nat.{_+_, _<_, _≤_};
+ghost use lib.ListN.{length, getD, set};
+ghost use Rattle.lists.specs.Lists.{allBelow};
+ghost use Rattle.netlist.specs.Net.{size, Sourced};
+ghost use Rattle.netlist.specs.ScanLaws.{Found};
+ghost use Rattle.netlist.specs.File.{netIn};
+ghost use Rattle.order.specs.Pass.{on, Waiting};
+ghost use Rattle.order.specs.Order.{classOf, Placed, ready, PlacedOnce, PlacedPass};
+
+// The steps that count: those within the clock (check 9), or those into registers (check 10).
+pub enum Steps {
+    InClock,
+    InRegisters,
+}
+
+fn counted_in_clock(e: Element) -> usize
+    ensures { λ r. ⌜ r ≡ classOf Steps.InClock .of e ⌝ }
+{
+    match e {
+        Element::Input => 0,
+        Element::Output => 1,
+        Element::Register(_) => 0,
+        Element::Async(_) => 1,
+        Element::Clocked(_, _) => 0,
+        Element::Gate(_) => source_count(e),
+    }
+}
+
+fn counted_in_registers(e: Element) -> usize
+    ensures { λ r. ⌜ r ≡ classOf Steps.InRegisters .of e ⌝ }
+{
+    match e {
+        Element::Input => 0,
+        Element::Output => 0,
+        Element::Register(_) => 1,
+        Element::Async(_) => 0,
+        Element::Clocked(_, _) => 0,
+        Element::Gate(_) => 0,
+    }
+}
+
+// How many of an element's sources, from the first on, count.
+pub fn counted(e: Element, steps: Steps) -> usize
+    ensures { λ r. ⌜ r ≡ classOf steps .of e ⌝ }
+{
+    match steps {
+        Steps::InClock => counted_in_clock(e),
+        Steps::InRegisters => counted_in_registers(e),
+    }
+}
+
+// Total reads and writes of work areas: past the end there is 0, and nothing is written.
+pub fn flag_at(flags: &[u8], i: usize) -> u8
+    ensures { λ r. ⌜ r ≡ getD (now (flags .entry)) i 0 ⌝ }
+{
+    if i < flags.len() { flags[i] } else { 0 }
+}
+
+pub fn number_at(numbers: &[u16], i: usize) -> u16
+    ensures { λ r. ⌜ r ≡ getD (now (numbers .entry)) i 0 ⌝ }
+{
+    if i < numbers.len() { numbers[i] } else { 0 }
+}
+
+pub fn put_flag(flags: &mut [u8], i: usize, x: u8)
+    ensures { λ _. ⌜ now (flags .exit) ≡ set (now (flags .entry)) i x ⌝ }
+{
+    if i < flags.len() {
+        flags[i] = x;
+    }
+}
+
+pub fn put_number(numbers: &mut [u16], i: usize, x: u16)
+    ensures { λ _. ⌜ now (numbers .exit) ≡ set (now (numbers .entry)) i x ⌝ }
+{
+    if i < numbers.len() {
+        numbers[i] = x;
+    }
+}
+
+// Whether all that v reads is flagged.
+fn is_ready(
+    file: &[u8],
+    tables: &[u16],
+    nodes: &[u16],
+    steps: Steps,
+    v: usize,
+    flags: &[u8],
+) -> bool
+    requires { ⌜ Found (now file) (now tables) (now nodes) × (v < length (now nodes)) ⌝ }
+    ensures { λ r. ⌜ r ≡ ready (classOf steps) (netIn (now (file .entry)) (now (tables .entry)) (now (nodes .entry))) (now (flags .entry)) v ⌝ }
+{
+    let x = node(file, tables, nodes, v);
+    let e = x.element;
+    let sources = x.sources;
+    all_flagged(sources, counted(e, steps), flags)
+}
+
+// Whether the first n sources are flagged.
+fn all_flagged(sources: [u16; 3], n: usize, flags: &[u8]) -> bool
+    requires { ⌜ n ≤ 3 ⌝ }
+    ensures { λ r. ⌜ r ≡ allBelow n (λ p. on (now (flags .entry)) (getD sources p 0)) ⌝ }
+{
+    let mut p: usize = 0;
+    while p < n {
+        if flag_at(flags, wide(sources[p])) == 0 {
+            return false;
+        }
+        p = p + 1;
+    }
+    true
+}
+
+// Places v next where it is ready and not placed yet; gives the number of nodes placed.
+fn place(
+    file: &[u8],
+    tables: &[u16],
+    nodes: &[u16],
+    steps: Steps,
+    v: usize,
+    flags: &mut [u8],
+    order: &mut [u16],
+    k: usize,
+) -> usize
+    requires { ⌜ Found (now file) (now tables) (now nodes) × Sourced (netIn (now file) (now tables) (now nodes)) × (v < length (now nodes))
+        × Placed (classOf steps) (netIn (now file) (now tables) (now nodes)) (now flags) (now order) k ⌝ }
+    ensures { λ r. ⌜ PlacedOnce (classOf steps) (netIn (now (file .entry)) (now (tables .entry)) (now (nodes .entry))) (now (flags .entry)) (now (flags .exit)) (now (order .exit)) k r v ⌝ }
+{
+    if 0 < flag_at(flags, v) {
+        return k;
+    }
+    if is_ready(file, tables, nodes, steps, v, flags) {
+        put_flag(flags, v, 1);
+        put_number(order, k, v as u16);
+        k + 1
+    } else {
+        k
+    }
+}
+
+// One pass over the nodes in file order.
+fn sweep(
+    file: &[u8],
+    tables: &[u16],
+    nodes: &[u16],
+    steps: Steps,
+    flags: &mut [u8],
+    order: &mut [u16],
+    start: usize,
+) -> usize
+    requires { ⌜ Found (now file) (now tables) (now nodes) × Sourced (netIn (now file) (now tables) (now nodes))
+        × Placed (classOf steps) (netIn (now file) (now tables) (now nodes)) (now flags) (now order) start ⌝ }
+    ensures { λ r. ⌜ PlacedPass (classOf steps) (netIn (now (file .entry)) (now (tables .entry)) (now (nodes .entry))) (now (flags .entry)) (now (flags .exit)) (now (order .exit)) start r (length (now (nodes .entry))) ⌝ }
+{
+    let mut k = start;
+    let mut v: usize = 0;
+    while v < nodes.len() {
+        k = place(file, tables, nodes, steps, v, flags, order, k);
+        v = v + 1;
+    }
+    k
+}
+
+// Passes until nothing more can be placed. After a good walk the first pass places nothing.
+fn settle(
+    file: &[u8],
+    tables: &[u16],
+    nodes: &[u16],
+    steps: Steps,
+    flags: &mut [u8],
+    order: &mut [u16],
+    start: usize,
+) -> usize
+    requires { ⌜ Found (now file) (now tables) (now nodes) × Sourced (netIn (now file) (now tables) (now nodes))
+        × Placed (classOf steps) (netIn (now file) (now tables) (now nodes)) (now flags) (now order) start ⌝ }
+    ensures { λ r. ⌜ Placed (classOf steps) (netIn (now (file .entry)) (now (tables .entry)) (now (nodes .entry))) (now (flags .exit)) (now (order .exit)) r
+        × Waiting (ready (classOf steps) (netIn (now (file .entry)) (now (tables .entry)) (now (nodes .entry)))) (now (flags .exit)) (length (now (nodes .entry))) ⌝ }
+{
+    let mut k = start;
+    loop {
+        let more = sweep(file, tables, nodes, steps, flags, order, k);
+        if more == k {
+            return k;
+        }
+        k = more;
+    }
+}
+
+// ---- the walk that proposes an order
+
+// How far a depth-first walk has come: how many nodes are on its stack, and how many are placed.
+pub struct Walk {
+    pub depth: usize,
+    pub placed: usize,
+}
+
+// The first source of v that counts and was not met yet, or the number of nodes.
+fn next_unmet(
+    file: &[u8],
+    tables: &[u16],
+    nodes: &[u16],
+    steps: Steps,
+    v: usize,
+    met: &[u8],
+) -> usize
+    requires { ⌜ Found (now file) (now tables) (now nodes) × (v < length (now nodes)) ⌝ }
+    ensures { λ r. ⌜ r ≤ length (now (nodes .entry)) ⌝ }
+{
+    let x = node(file, tables, nodes, v);
+    let e = x.element;
+    let n = counted(e, steps);
+    let sources = x.sources;
+    let mut p: usize = 0;
+    while p < 3 {
+        if n <= p {
+            return nodes.len();
+        }
+        let u = wide(sources[p]);
+        if u < nodes.len() {
+            if flag_at(met, u) == 0 {
+                return u;
+            }
+        }
+        p = p + 1;
+    }
+    nodes.len()
+}
+
+// One step of the walk: down to a source not met yet, or back, placing the node.
+fn walk_step(
+    file: &[u8],
+    tables: &[u16],
+    nodes: &[u16],
+    steps: Steps,
+    flags: &mut [u8],
+    order: &mut [u16],
+    stack: &mut [u16],
+    met: &mut [u8],
+    at: Walk,
+) -> Walk
+    requires { ⌜ Found (now file) (now tables) (now nodes) × Sourced (netIn (now file) (now tables) (now nodes)) × (at .depth ≤ 4096)
+        × Placed (classOf steps) (netIn (now file) (now tables) (now nodes)) (now flags) (now order) (at .placed) ⌝ }
+    ensures { λ r. ⌜ (r .depth ≤ at .depth + 1) × Placed (classOf steps) (netIn (now (file .entry)) (now (tables .entry)) (now (nodes .entry))) (now (flags .exit)) (now (order .exit)) (r .placed) ⌝ }
+{
+    let depth = at.depth;
+    let placed = at.placed;
+    if depth == 0 {
+        return Walk { depth, placed };
+    }
+    let v = wide(number_at(stack, depth - 1));
+    if nodes.len() <= v {
+        return Walk {
+            depth: depth - 1,
+            placed,
+        };
+    }
+    let u = next_unmet(file, tables, nodes, steps, v, met);
+    if u < nodes.len() {
+        put_flag(met, u, 1);
+        put_number(stack, depth, u as u16);
+        return Walk {
+            depth: depth + 1,
+            placed,
+        };
+    }
+    let more = place(file, tables, nodes, steps, v, flags, order, placed);
+    Walk {
+        depth: depth - 1,
+        placed: more,
+    }
+}
+
+// Places a node, and first what it reads, as far as a walk of so many steps gets.
+fn walk_from(
+    file: &[u8],
+    tables: &[u16],
+    nodes: &[u16],
+    steps: Steps,
+    root: usize,
+    flags: &mut [u8],
+    order: &mut [u16],
+    stack: &mut [u16],
+    met: &mut [u8],
+    start: usize,
+) -> usize
+    requires { ⌜ Found (now file) (now tables) (now nodes) × Sourced (netIn (now file) (now tables) (now nodes)) × (root < length (now nodes))
+        × Placed (classOf steps) (netIn (now file) (now tables) (now nodes)) (now flags) (now order) start ⌝ }
+    ensures { λ r. ⌜ Placed (classOf steps) (netIn (now (file .entry)) (now (tables .entry)) (now (nodes .entry))) (now (flags .exit)) (now (order .exit)) r ⌝ }
+{
+    let placed = place(file, tables, nodes, steps, root, flags, order, start);
+    if 0 < flag_at(flags, root) {
+        return placed;
+    }
+    put_flag(met, root, 1);
+    put_number(stack, 0, root as u16);
+    let mut at = Walk { depth: 1, placed };
+    let mut left: usize = 2048;
+    while 0 < left {
+        if at.depth == 0 {
+            return at.placed;
+        }
+        at = walk_step(file, tables, nodes, steps, flags, order, stack, met, at);
+        left = left - 1;
+    }
+    at.placed
+}
+
+// Walks from every node in file order.
+fn walk_all(
+    file: &[u8],
+    tables: &[u16],
+    nodes: &[u16],
+    steps: Steps,
+    flags: &mut [u8],
+    order: &mut [u16],
+) -> usize
+    requires { ⌜ Found (now file) (now tables) (now nodes) × Sourced (netIn (now file) (now tables) (now nodes))
+        × Placed (classOf steps) (netIn (now file) (now tables) (now nodes)) (now flags) (now order) 0 ⌝ }
+    ensures { λ r. ⌜ Placed (classOf steps) (netIn (now (file .entry)) (now (tables .entry)) (now (nodes .entry))) (now (flags .exit)) (now (order .exit)) r ⌝ }
+{
+    let mut stack = [0u16; 1024];
+    let mut met = [0u8; 1024];
+    let mut placed: usize = 0;
+    let mut root: usize = 0;
+    while root < nodes.len() {
+        placed = walk_from(
+            file,
+            tables,
+            nodes,
+            steps,
+            root,
+            flags,
+            order,
+            &mut stack,
+            &mut met,
+            placed,
+        );
+        root = root + 1;
+    }
+    placed
+}
+
+// Places all nodes that can be placed and gives their number. The flags are 0 at first.
+pub fn order_nodes(
+    file: &[u8],
+    tables: &[u16],
+    nodes: &[u16],
+    steps: Steps,
+    flags: &mut [u8],
+    order: &mut [u16],
+) -> usize
+    requires { ⌜ Found (now file) (now tables) (now nodes) × Sourced (netIn (now file) (now tables) (now nodes))
+        × Placed (classOf steps) (netIn (now file) (now tables) (now nodes)) (now flags) (now order) 0 ⌝ }
+    ensures { λ r. ⌜ Placed (classOf steps) (netIn (now (file .entry)) (now (tables .entry)) (now (nodes .entry))) (now (flags .exit)) (now (order .exit)) r
+        × Waiting (ready (classOf steps) (netIn (now (file .entry)) (now (tables .entry)) (now (nodes .entry)))) (now (flags .exit)) (length (now (nodes .entry))) ⌝ }
+{
+    let placed = walk_all(file, tables, nodes, steps, flags, order);
+    settle(file, tables, nodes, steps, flags, order, placed)
+}

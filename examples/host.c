@@ -1,0 +1,64 @@
+/* Rewrites a small netlist and runs the old and the new file side by side for five clocks. */
+#include <stdio.h>
+#include <string.h>
+
+#include "punqelis.h"
+
+/* A two-bit register (reset 1) that adds up a table of 3, 1, 2, 2 at its own address. */
+static const uint8_t old_file[] = {
+    0x01, 0x00, 0x01, 0x01,                                     /* head */
+    0x02, 0x00, 0x0A, 0x02, 0x02, 0, 3, 0, 1, 0, 2, 0, 2,       /* table 0 */
+    0x03, 0x00, 0x06, 0x02, 0x02, 0x00, 0x02, 0x00, 0x01,       /* 0 register of 2, reset 1 */
+    0x03, 0x00, 0x05, 0x03, 0x02, 0x00, 0x00, 0x00,             /* 1 asynchronous ROM of 0 */
+    0x03, 0x00, 0x07, 0x05, 0x02, 0x05, 0x00, 0x00, 0x00, 0x01, /* 2 add of 0 and 1 */
+    0x03, 0x00, 0x04, 0x01, 0x02, 0x00, 0x00,                   /* 3 output of 0 */
+    0x04, 0x00, 0x00                                            /* end */
+};
+
+/* Prints a refusal, and tells whether there is one. */
+static int refused(const char *call, uint32_t answer)
+{
+    if (PUNQELIS_IS_REFUSED(answer)) {
+        printf("%s: refused %u %u\n", call, (unsigned)PUNQELIS_REFUSAL(answer),
+               (unsigned)PUNQELIS_PLACE(answer));
+        return 1;
+    }
+    return 0;
+}
+
+int main(void)
+{
+    static const unsigned expected[] = {1, 2, 0, 3, 1};
+    static uint8_t new_file[PUNQELIS_MAX_FILE];
+    uint8_t old_state[2]; /* the register */
+    uint8_t new_state[6]; /* the clocked ROM, and a register for each reader of the add */
+    const uint8_t no_inputs[1] = {0};
+    uint32_t new_len;
+    size_t clock;
+
+    new_len = punqelis_rewrite(old_file, sizeof old_file, new_file, sizeof new_file);
+    if (refused("rewrite", new_len)
+        || refused("reset", punqelis_reset(old_file, sizeof old_file, old_state, sizeof old_state))
+        || refused("reset", punqelis_reset(new_file, new_len, new_state, sizeof new_state)))
+        return 1;
+    printf("rewritten: %u bytes\n", (unsigned)new_len);
+
+    for (clock = 0; clock < sizeof expected / sizeof expected[0]; clock++) {
+        uint8_t old_out[2] = {0, 0}, new_out[2] = {0, 0};
+        unsigned old_word, new_word;
+
+        if (refused("run", punqelis_run(old_file, sizeof old_file, old_state, sizeof old_state,
+                                        no_inputs, 0, old_out, sizeof old_out))
+            || refused("run", punqelis_run(new_file, new_len, new_state, sizeof new_state,
+                                           no_inputs, 0, new_out, sizeof new_out)))
+            return 1;
+        old_word = old_out[0] * 256u + old_out[1];
+        new_word = new_out[0] * 256u + new_out[1];
+        printf("clock %u: old %u, new %u\n", (unsigned)clock, old_word, new_word);
+        if (memcmp(old_out, new_out, sizeof old_out) != 0 || old_word != expected[clock]) {
+            printf("expected %u\n", expected[clock]);
+            return 1;
+        }
+    }
+    return 0;
+}

@@ -1,0 +1,38 @@
+//! A second implementation of the netlist library, written from its specification alone,
+//! and what it takes to hold the product against it: random netlists, test vectors, and the
+//! product's C interface.
+//!
+//! Lower layer: [`netlist`], [`format`] and [`checks`]. Above it: [`simulate`] and [`rewrite`].
+
+pub mod checks;
+pub mod design;
+pub mod first_clocks;
+pub mod format;
+pub mod leads;
+pub mod netlist;
+#[cfg(feature = "check")]
+pub mod product;
+pub mod random;
+pub mod refusal;
+pub mod rewrite;
+pub mod simulate;
+pub mod stack;
+pub mod vectors;
+pub mod workloads;
+
+pub use checks::check;
+pub use refusal::{Answer, Refusal};
+pub use rewrite::rewrite;
+pub use simulate::{reset, run};
+
+/// A service on a file: the check.
+pub type Check = fn(&[u8]) -> Answer;
+/// A service on a file and lent bytes: the reset and the rewriter.
+pub type OnBytes = fn(&[u8], &mut [u8]) -> Answer;
+/// A service on a file, its state, inputs and outputs: the run.
+pub type OneClock = fn(&[u8], &mut [u8], &[u8], &mut [u8]) -> Answer;
+
+/// The bytes in hexadecimal, to show a file that went wrong.
+pub fn hex(bytes: &[u8]) -> String {
+    bytes.iter().map(|byte| format!("{byte:02x}")).collect()
+}

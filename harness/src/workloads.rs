@@ -1,0 +1,201 @@
+//! Large netlists with names, for the benchmark: a typical one, and those that make a service
+//! work longest.
+
+use crate::design::Design;
+use crate::netlist::{Kind, MAX_NODES};
+use crate::random::{sized_netlist, Random, Shape};
+
+/// 900 nodes of all kinds in random order, 16 tables of 1,024 words of 16 bits.
+pub fn typical() -> Design {
+    let shape = Shape {
+        nodes: 800,
+        tables: vec![(10, 16); 16],
+        inputs: 8,
+        widths: vec![1, 10, 16],
+        most_lead: 3,
+        most_registers: 1,
+        async_roms: 8,
+        clocked_roms: 4,
+        feedback: 5,
+        registers: 5,
+        sharing: 30,
+    };
+    // Some of these grow too large when they are rewritten: the first that does not.
+    let mut out = vec![0; crate::format::MAX_FILE];
+    let accepted = |design: &Design| crate::rewrite(&design.file(), &mut out).is_ok();
+    (1..)
+        .map(|seed| sized_netlist(&mut Random::new(seed), &shape, 900))
+        .find(accepted)
+        .expect("some seed gives one")
+}
+
+/// A chain of gates, each behind its source: the best order for a run.
+pub fn forward_chain(nodes: usize) -> Design {
+    let mut design = Design::default();
+    let input = design.input(16);
+    let mut last = input;
+    for gate in 0..nodes - 2 {
+        let operations = [Kind::Add, Kind::Xor, Kind::Subtract];
+        last = design.gate(operations[gate % 3], 16, &[last, input]);
+    }
+    design.output(last);
+    design
+}
+
+/// The same chain listed backwards: the worst order.
+pub fn backward_chain(nodes: usize) -> Design {
+    let mut design = forward_chain(nodes);
+    design.reverse();
+    design
+}
+
+/// One table of 16 words, each the next one's address.
+fn successors(design: &mut Design) -> u8 {
+    let words: Vec<u16> = (0..16).map(|word| (word * 5 + 3) % 16).collect();
+    design.table(4, &words)
+}
+
+/// A thousand registers in a row, listed from reader to source.
+pub fn deep_registers() -> Design {
+    let mut design = Design::default();
+    let mut last = design.input(16);
+    for reset in 0..MAX_NODES - 2 {
+        last = design.register(last, reset as u16);
+    }
+    design.output(last);
+    design.reverse();
+    design
+}
+
+/// A long row of registers that many readers with a large lead share: each of their wires keeps
+/// one register, whose reset word lies at the far end of the row.
+pub fn deep_shared_registers() -> Design {
+    let mut design = Design::default();
+    let table = successors(&mut design);
+    let mut row = design.input(4);
+    for reset in 0..301 {
+        row = design.register(row, reset % 16);
+    }
+    let mut sum = row;
+    for _ in 0..300 {
+        sum = design.gate(Kind::Add, 4, &[sum, row]);
+    }
+    for _ in 0..300 {
+        sum = design.async_rom(sum, table);
+    }
+    design.output(sum);
+    design.reverse();
+    design
+}
+
+/// The rewriter's leads settle slowly: each asynchronous ROM reads the next over a clocked one,
+/// and what they come to must go through a long row of clocked ROMs.
+pub fn long_relaxation() -> Design {
+    let mut design = Design::default();
+    let table = successors(&mut design);
+    let mut last = design.constant(4, 1);
+    for word in 0..500 {
+        last = design.clocked_rom(last, table, word % 16);
+    }
+    for word in 0..250 {
+        last = design.async_rom(last, table);
+        last = design.clocked_rom(last, table, word % 16);
+    }
+    design.output(last);
+    design
+}
+
+/// [`long_relaxation`] listed backwards.
+pub fn long_relaxation_backwards() -> Design {
+    let mut design = long_relaxation();
+    design.reverse();
+    design
+}
+
+/// As many asynchronous ROMs in a row as there can be: the first runs 1,022 clocks early.
+pub fn largest_leads() -> Design {
+    let mut design = Design::default();
+    let table = successors(&mut design);
+    let mut last = design.constant(4, 1);
+    for _ in 0..MAX_NODES - 2 {
+        last = design.async_rom(last, table);
+    }
+    design.output(last);
+    design
+}
+
+/// A ring of as many registers as asynchronous ROMs, with all the registers in one place.
+pub fn large_ring() -> Design {
+    let mut design = Design::default();
+    let table = successors(&mut design);
+    let first = design.loose_register(4, 7);
+    let mut last = first;
+    for reset in 1..511 {
+        last = design.register(last, reset % 16);
+    }
+    for _ in 0..511 {
+        last = design.async_rom(last, table);
+    }
+    design.connect(first, 0, last);
+    design.output(first);
+    design.reverse();
+    design
+}
+
+/// The same ring with one register less: 11, found only when the leads have grown too large.
+pub fn closed_debt() -> Design {
+    let mut design = Design::default();
+    let table = successors(&mut design);
+    let first = design.loose_register(4, 7);
+    let mut last = first;
+    for reset in 0..510 {
+        last = design.async_rom(last, table);
+        last = design.register(last, reset % 16);
+    }
+    last = design.async_rom(last, table);
+    last = design.async_rom(last, table);
+    design.connect(first, 0, last);
+    design.reverse();
+    design
+}
+
+/// Gates that read the three behind them, and two that read each other at the far end. The
+/// search for a loop goes through all of them from each node.
+pub fn far_loop() -> Design {
+    let mut design = Design::default();
+    let gates = MAX_NODES as u16 - 1;
+    for number in 0..gates {
+        let next = |step: u16| (number + step).min(gates - 1);
+        let sources = match number < gates - 2 {
+            true => [next(1), next(2), next(3)],
+            false => [2 * gates - 3 - number; 3],
+        };
+        design.gate(Kind::Choose, 1, &sources);
+    }
+    design.output(0);
+    design
+}
+
+/// [`far_loop`] listed backwards, so that the loop has the lowest numbers.
+pub fn far_loop_backwards() -> Design {
+    let mut design = far_loop();
+    design.reverse();
+    design
+}
+
+/// Registers that read the next one, and two that read each other at the far end: 10.
+pub fn far_ring() -> Design {
+    let mut design = Design::default();
+    let registers = MAX_NODES as u16 - 1;
+    for number in 0..registers {
+        let register = design.loose_register(1, 0);
+        let source = if number < registers - 1 {
+            number + 1
+        } else {
+            number - 1
+        };
+        design.connect(register, 0, source);
+    }
+    design.output(0);
+    design
+}

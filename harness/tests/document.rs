@@ -1,0 +1,213 @@
+//! The specification's own bench netlists, with the answers it gives for them.
+
+use harness::checks::checked;
+use harness::design::Design;
+use harness::netlist::{Kind, Netlist, Node};
+use harness::simulate::{outputs_len, state_len};
+use harness::{Answer, OnBytes, OneClock, Refusal};
+
+const REWRITERS: &[OnBytes] = &[
+    harness::rewrite,
+    #[cfg(feature = "rewrite")]
+    harness::product::rewrite,
+];
+
+const RUNS: &[(OnBytes, OneClock)] = &[
+    (harness::reset, harness::run),
+    #[cfg(feature = "run")]
+    (harness::product::reset, harness::product::run),
+];
+
+const NO_INPUTS: &[u8] = &[];
+
+/// Rewrites the file by every rewriter; gives the new file, or the refusal.
+fn rewritten(file: &[u8]) -> Result<Vec<u8>, Refusal> {
+    let each = REWRITERS.iter().map(|rewrite| {
+        let mut out = vec![0; 1_000];
+        let length = rewrite(file, &mut out)?;
+        Ok(out[..length].to_vec())
+    });
+    let mut answers: Vec<_> = each.collect();
+    let answer = answers.remove(0);
+    assert!(answers.iter().all(|other| *other == answer));
+    answer
+}
+
+fn refused(design: &Design, number: u16, place: u16) {
+    assert_eq!(rewritten(&design.file()), Err(Refusal { number, place }));
+}
+
+/// Runs a file with one output port from reset, with the inputs, and compares the outputs.
+fn outputs_are(file: &[u8], inputs: &[&[u8]], outputs: &[u16]) {
+    let checked = checked(file).expect("accepted");
+    for (reset, run) in RUNS {
+        let mut state = vec![0; state_len(&checked)];
+        assert_eq!(reset(file, &mut state), Ok(state.len()));
+        for (inputs, expected) in inputs.iter().zip(outputs) {
+            let mut output = vec![0; outputs_len(&checked)];
+            assert_eq!(run(file, &mut state, inputs, &mut output), Ok(output.len()));
+            assert_eq!(output, expected.to_be_bytes());
+        }
+    }
+}
+
+/// The nodes of a rewritten file.
+fn nodes(file: &[u8]) -> Vec<Node> {
+    let Netlist { nodes, .. } = harness::format::read(file).expect("accepted");
+    nodes
+}
+
+fn one_bit() -> Design {
+    let mut design = Design::default();
+    design.table(1, &[1, 0]);
+    design
+}
+
+#[test]
+fn empty() {
+    let file = [1, 0, 1, 1, 4, 0, 0];
+    assert_eq!(rewritten(&file), Ok(file.to_vec()));
+}
+
+#[test]
+fn adder() {
+    let mut design = Design::default();
+    design.table(2, &[3, 1, 2, 2]);
+    let register = design.loose_register(2, 1);
+    let rom = design.async_rom(register, 0);
+    let add = design.gate(Kind::Add, 2, &[register, rom]);
+    design.connect(register, 0, add);
+    design.output(register);
+    let old = design.file();
+    let new = [
+        0x01, 0x00, 0x01, 0x01, 0x02, 0x00, 0x0A, 0x02, 0x02, 0x00, 0x03, 0x00, 0x01, 0x00, 0x02,
+        0x00, 0x02, 0x03, 0x00, 0x07, 0x04, 0x02, 0x00, 0x01, 0x00, 0x00, 0x01, 0x03, 0x00, 0x07,
+        0x05, 0x02, 0x05, 0x00, 0x03, 0x00, 0x00, 0x03, 0x00, 0x04, 0x01, 0x02, 0x00, 0x04, 0x03,
+        0x00, 0x06, 0x02, 0x02, 0x00, 0x01, 0x00, 0x01, 0x03, 0x00, 0x06, 0x02, 0x02, 0x00, 0x01,
+        0x00, 0x01, 0x04, 0x00, 0x00,
+    ];
+    assert_eq!(rewritten(&old), Ok(new.to_vec()));
+    outputs_are(&old, &[NO_INPUTS; 5], &[1, 2, 0, 3, 1]);
+    outputs_are(&new, &[NO_INPUTS; 5], &[1, 2, 0, 3, 1]);
+}
+
+#[test]
+fn toggle() {
+    let mut design = one_bit();
+    let register = design.loose_register(1, 0);
+    let rom = design.async_rom(register, 0);
+    design.connect(register, 0, rom);
+    design.output(rom);
+    let new = rewritten(&design.file()).expect("accepted");
+    let mut expected = one_bit();
+    expected.clocked_rom(0, 0, 1);
+    expected.output(0);
+    assert_eq!(new, expected.file());
+    outputs_are(&design.file(), &[NO_INPUTS; 4], &[1, 0, 1, 0]);
+    outputs_are(&new, &[NO_INPUTS; 4], &[1, 0, 1, 0]);
+}
+
+#[test]
+fn input_rom_output() {
+    let mut design = one_bit();
+    let port = design.input(1);
+    let rom = design.async_rom(port, 0);
+    design.output(rom);
+    refused(&design, 12, 0);
+}
+
+#[test]
+fn input_register_rom_output() {
+    for (reset, word) in [(0, 1), (1, 0)] {
+        let mut design = one_bit();
+        let port = design.input(1);
+        let register = design.register(port, reset);
+        let rom = design.async_rom(register, 0);
+        design.output(rom);
+        let new = rewritten(&design.file()).expect("accepted");
+        let mut expected = one_bit();
+        let port = expected.input(1);
+        let rom = expected.clocked_rom(port, 0, word);
+        expected.output(rom);
+        assert_eq!(new, expected.file());
+        outputs_are(&new, &[&[0, 0], &[0, 1], &[0, 0]], &[word, 1, 0]);
+    }
+}
+
+#[test]
+fn input_rom_register_output() {
+    for reset in [0, 1] {
+        let mut design = one_bit();
+        let port = design.input(1);
+        let rom = design.async_rom(port, 0);
+        let register = design.register(rom, reset);
+        design.output(register);
+        let new = rewritten(&design.file()).expect("accepted");
+        let mut expected = one_bit();
+        let port = expected.input(1);
+        let rom = expected.clocked_rom(port, 0, reset);
+        expected.output(rom);
+        assert_eq!(new, expected.file());
+    }
+}
+
+#[test]
+fn two_registers_of_different_reset() {
+    let mut design = Design::default();
+    design.table(2, &[3, 1, 2, 2]);
+    let port = design.input(2);
+    let rom = design.async_rom(port, 0);
+    for reset in [1, 2] {
+        let register = design.register(rom, reset);
+        design.output(register);
+    }
+    let new = nodes(&rewritten(&design.file()).expect("accepted"));
+    let mut expected = Design::default();
+    expected.table(2, &[3, 1, 2, 2]);
+    let port = expected.input(2);
+    let first = expected.clocked_rom(port, 0, 1);
+    let second = expected.clocked_rom(port, 0, 2);
+    expected.output(first);
+    expected.output(second);
+    assert_eq!(new, expected.nodes);
+}
+
+#[test]
+fn input_rom_not_register_output() {
+    let mut design = one_bit();
+    let port = design.input(1);
+    let rom = design.async_rom(port, 0);
+    let not = design.gate(Kind::Not, 1, &[rom]);
+    let register = design.register(not, 0);
+    design.output(register);
+    refused(&design, 12, 0);
+}
+
+#[test]
+fn ring_of_two_roms_and_one_register() {
+    let mut design = one_bit();
+    let register = design.loose_register(1, 0);
+    let first = design.async_rom(register, 0);
+    let second = design.async_rom(first, 0);
+    design.connect(register, 0, second);
+    refused(&design, 11, 65_535);
+}
+
+#[test]
+fn output_one_byte_short() {
+    let mut design = one_bit();
+    let port = design.input(1);
+    let register = design.register(port, 0);
+    design.output(register);
+    let file = design.file();
+    let short: Answer = Err(Refusal {
+        number: 14,
+        place: 65_535,
+    });
+    for rewrite in REWRITERS {
+        let mut out = vec![0xa5; file.len()];
+        assert_eq!(rewrite(&file, &mut out[1..]), short);
+        assert_eq!(out, vec![0xa5; file.len()]);
+        assert_eq!(rewrite(&file, &mut out), Ok(file.len()));
+    }
+}

@@ -1,0 +1,250 @@
+//! The harness against itself: random material is as varied as it should be, leads are what
+//! they are defined to be, and old and rewritten netlists run alike.
+
+use std::hint::black_box;
+
+use harness::checks::{checked, Checked};
+use harness::design::Design;
+use harness::format::{self, MAX_FILE};
+use harness::leads::{chains, leads};
+use harness::netlist::{Kind, Netlist, MAX_NODES};
+use harness::random::{self, Random};
+use harness::refusal::{CLOSED_DEBT, GROWN, LOOP, PORT_DEBT, RING, SHORT};
+use harness::rewrite::retimed;
+use harness::simulate::{inputs_len, outputs_len, reset_checked, run_checked, state_len};
+use harness::stack::stack_use;
+use harness::workloads;
+
+fn rewrite_refusal(file: &[u8]) -> Option<u16> {
+    let mut out = vec![0; MAX_FILE];
+    harness::rewrite(file, &mut out).err().map(|r| r.number)
+}
+
+#[test]
+fn random_netlists_are_varied() {
+    let roms = |n: &Netlist| n.nodes.iter().filter(|n| n.kind.is_rom()).count();
+    let mut random = Random::new(1);
+    let files = 3_000;
+    let [mut accepted, mut early, mut split, mut long, mut largest] = [0; 5];
+    let mut operations = [0; 12];
+    for _ in 0..files {
+        let design = random::netlist(&mut random);
+        let file = design.file();
+        let checked = checked(&file).expect("random netlists pass the reader");
+        let netlist = &checked.netlist;
+        assert_eq!(
+            *netlist,
+            design.netlist(),
+            "reading gives back what was written"
+        );
+        let chains = chains(&checked);
+        let leads = leads(&checked, &chains).expect("random netlists have no debt");
+        for node in netlist.nodes.iter().filter(|n| n.kind.is_gate()) {
+            operations[node.kind as usize - Kind::Constant as usize] += 1;
+        }
+        match retimed(&checked) {
+            Ok(new) => {
+                accepted += 1;
+                early += usize::from(leads.iter().any(|&lead| lead >= 6));
+                split += usize::from(roms(&new) > roms(netlist));
+                long += usize::from(chains.iter().any(|chain| chain.registers >= 20));
+                largest += usize::from(netlist.nodes.len() == MAX_NODES);
+            }
+            Err(refusal) => assert_eq!(refusal.number, GROWN),
+        }
+    }
+    println!("{files} netlists, {accepted} accepted; among these {early} with a lead of 6 and");
+    println!("more, {split} with split ROMs, {long} with 20 registers in a row, {largest} of");
+    println!("1,024 nodes; gates by operation: {operations:?}");
+    assert!(accepted > files * 9 / 10);
+    assert!(early > files / 50 && split > files / 20 && long > files / 50 && largest > files / 100);
+    assert!(operations.iter().all(|&gates| gates > files));
+}
+
+#[test]
+fn damage_reaches_the_checks() {
+    let mut random = Random::new(2);
+    let mut refused = [0; 17];
+    for _ in 0..6_000 {
+        let design = random::netlist(&mut random);
+        let file = match random.chance(50) {
+            true => random::damaged(&mut random, &design.file()),
+            false => random::rewired(&mut random, &design).file(),
+        };
+        refused[usize::from(rewrite_refusal(&file).unwrap_or(0))] += 1;
+    }
+    println!("6000 damaged files by refusal: {refused:?}");
+    for number in SHORT..=RING {
+        assert!(refused[usize::from(number)] >= 50, "{number}");
+    }
+}
+
+#[test]
+fn debts_and_growth_are_refused() {
+    let mut random = Random::new(3);
+    let mut too_large = 0;
+    for _ in 0..500 {
+        let closed = random::closed_debt(&mut random).file();
+        assert_eq!(rewrite_refusal(&closed), Some(CLOSED_DEBT));
+        let port = random::port_debt(&mut random).file();
+        assert_eq!(rewrite_refusal(&port), Some(PORT_DEBT));
+        let (grown, nodes) = random::grown(&mut random);
+        let expected = (nodes > MAX_NODES).then_some(GROWN);
+        assert_eq!(rewrite_refusal(&grown.file()), expected);
+        too_large += usize::from(expected.is_some());
+    }
+    println!("500 netlists at the limit, {too_large} of them beyond");
+}
+
+/// The largest excess of a walk from each node, one step of the walks at a time; none where
+/// walks go on gaining.
+fn largest_excess(checked: &Checked) -> Option<Vec<i32>> {
+    let nodes = &checked.netlist.nodes;
+    let mut excess = vec![0; nodes.len()];
+    for _ in 0..=nodes.len() {
+        let before = excess.clone();
+        for (reader, node) in nodes.iter().enumerate() {
+            for &source in node.sources() {
+                let source = usize::from(source);
+                let step = i32::from(nodes[source].kind == Kind::AsyncRom)
+                    - i32::from(node.kind == Kind::Register);
+                excess[source] = excess[source].max(before[reader] + step);
+            }
+        }
+        if excess == before {
+            return Some(excess);
+        }
+    }
+    None
+}
+
+#[test]
+fn leads_are_the_largest_excess() {
+    let mut random = Random::new(4);
+    let [mut compared, mut closed, mut port] = [0; 3];
+    for _ in 0..3_000 {
+        let design = match random.below(4) {
+            0 => random::netlist(&mut random),
+            1 => random::closed_debt(&mut random),
+            2 => random::port_debt(&mut random),
+            _ => {
+                let design = random::netlist(&mut random);
+                random::rewired(&mut random, &design)
+            }
+        };
+        let file = design.file();
+        let Ok(checked) = checked(&file) else {
+            continue;
+        };
+        compared += 1;
+        let nodes = &checked.netlist.nodes;
+        match (largest_excess(&checked), leads(&checked, &chains(&checked))) {
+            (None, Err(refusal)) if refusal.number == CLOSED_DEBT => closed += 1,
+            (Some(excess), Err(refusal)) if refusal.number == PORT_DEBT => {
+                port += 1;
+                let has_debt = |&n: &usize| nodes[n].kind == Kind::Input && excess[n] > 0;
+                let lowest = (0..nodes.len()).find(has_debt);
+                assert_eq!(lowest, Some(usize::from(refusal.place)));
+            }
+            (Some(excess), Ok(leads)) => {
+                for (number, node) in nodes.iter().enumerate() {
+                    if node.kind != Kind::Register {
+                        assert_eq!(i32::from(leads[number]), excess[number], "node {number}");
+                    }
+                }
+            }
+            _ => panic!("leads and walks disagree: {}", harness::hex(&file)),
+        }
+    }
+    println!("{compared} netlists compared, {closed} with a closed debt, {port} with a port debt");
+    assert!(closed > 500 && port > 500);
+}
+
+#[test]
+fn old_and_rewritten_run_alike() {
+    let mut random = Random::new(5);
+    let mut out = vec![0; MAX_FILE];
+    let mut clocks = 0;
+    for _ in 0..1_000 {
+        let old_file = random::netlist(&mut random).file();
+        let Ok(length) = harness::rewrite(&old_file, &mut out) else {
+            continue;
+        };
+        let old = checked(&old_file).expect("checked before");
+        let new = checked(&out[..length]).expect("a rewritten file passes the reader");
+        assert!(new.netlist.nodes.iter().all(|n| n.kind != Kind::AsyncRom));
+        let mut old_state = vec![0; state_len(&old)];
+        let mut new_state = vec![0; state_len(&new)];
+        reset_checked(&old, &mut old_state).expect("the length is right");
+        reset_checked(&new, &mut new_state).expect("the length is right");
+        let mut old_outputs = vec![0; outputs_len(&old)];
+        let mut new_outputs = old_outputs.clone();
+        for _ in 0..60 {
+            let inputs = random::inputs(&mut random, &old.netlist);
+            assert_eq!(inputs.len(), inputs_len(&new));
+            let answer = run_checked(&old, &mut old_state, &inputs, &mut old_outputs);
+            assert_eq!(answer, Ok(old_outputs.len()));
+            assert_eq!(
+                run_checked(&new, &mut new_state, &inputs, &mut new_outputs),
+                answer
+            );
+            assert!(old_outputs == new_outputs, "{}", harness::hex(&old_file));
+            clocks += 1;
+        }
+    }
+    println!("{clocks} clocks compared");
+}
+
+#[test]
+fn stack_is_measured() {
+    const BYTES: usize = 100 << 10;
+    let used = stack_use(|| {
+        let mut area = [0_u8; BYTES];
+        black_box(&mut area).fill(1);
+    });
+    println!("{used} bytes of stack for {BYTES}");
+    assert!((BYTES..BYTES + 4096).contains(&used));
+}
+
+#[test]
+fn workloads_are_what_they_say() {
+    let typical = workloads::typical();
+    assert_eq!(typical.nodes.len(), 900);
+    assert_eq!(typical.tables.len(), 16);
+    let accepted: [(Design, usize); 6] = [
+        (typical, 900),
+        (workloads::deep_registers(), 1_024),
+        (workloads::deep_shared_registers(), 903),
+        (workloads::long_relaxation(), 1_002),
+        (workloads::largest_leads(), 1_024),
+        (workloads::large_ring(), 1_023),
+    ];
+    for (design, nodes) in accepted {
+        assert_eq!(design.nodes.len(), nodes);
+        assert_eq!(rewrite_refusal(&design.file()), None);
+    }
+    assert_eq!(
+        rewrite_refusal(&workloads::closed_debt().file()),
+        Some(CLOSED_DEBT)
+    );
+    assert_eq!(rewrite_refusal(&workloads::far_loop().file()), Some(LOOP));
+    assert_eq!(
+        rewrite_refusal(&workloads::far_loop_backwards().file()),
+        Some(LOOP)
+    );
+    assert_eq!(rewrite_refusal(&workloads::far_ring().file()), Some(RING));
+    for nodes in [100, 1_000] {
+        let forward = workloads::forward_chain(nodes);
+        assert_eq!(forward.nodes.len(), nodes);
+        assert!(harness::check(&forward.file()).is_ok());
+        let backward = workloads::backward_chain(nodes);
+        let reads_later = |(number, node): (usize, &harness::netlist::Node)| {
+            node.sources().iter().all(|&s| usize::from(s) > number)
+        };
+        assert!(backward.nodes.iter().enumerate().all(reads_later));
+        assert_eq!(
+            format::read(&backward.file()).map(|n| n.nodes.len()),
+            Ok(nodes)
+        );
+    }
+}

@@ -1,0 +1,125 @@
+//! Every test vector, through the harness's own implementation and through the product.
+
+use harness::checks::checked;
+use harness::format::MAX_FILE;
+use harness::simulate::{outputs_len, state_len};
+use harness::vectors::{self, Run};
+use harness::{Check, OnBytes, OneClock};
+
+#[cfg(feature = "check")]
+use harness::product;
+
+#[test]
+fn own_check() {
+    check(harness::check);
+}
+
+#[test]
+fn own_run() {
+    run(harness::reset, harness::run);
+}
+
+#[test]
+fn own_rewrite() {
+    rewrite(harness::rewrite);
+}
+
+#[test]
+#[cfg(feature = "check")]
+fn product_check() {
+    check(product::check);
+}
+
+#[test]
+#[cfg(feature = "run")]
+fn product_run() {
+    run(product::reset, product::run);
+}
+
+#[test]
+#[cfg(feature = "rewrite")]
+fn product_rewrite() {
+    rewrite(product::rewrite);
+}
+
+fn check(check: Check) {
+    let vectors = vectors::all();
+    let mut accepted = 0;
+    for vector in &vectors {
+        let answer = check(&vector.file);
+        assert_eq!(answer, vector.check_answer(), "{}", vector.name);
+        accepted += usize::from(answer.is_ok());
+    }
+    println!("{} files checked, {accepted} accepted", vectors.len());
+    assert!(accepted > 0);
+}
+
+fn run(reset: OnBytes, run: OneClock) {
+    let mut clocks = 0;
+    let mut refused = 0;
+    for vector in vectors::all() {
+        let name = &vector.name;
+        let Some(trace) = &vector.trace else {
+            // The reader's refusal, whatever is lent.
+            let refusal = vector.check_answer();
+            assert_eq!(reset(&vector.file, &mut [0; 2]), refusal, "{name}");
+            assert_eq!(
+                run(&vector.file, &mut [0; 2], &[], &mut []),
+                refusal,
+                "{name}"
+            );
+            continue;
+        };
+        let checked = checked(&vector.file).expect(name);
+        let mut state = vec![0xa5; state_len(&checked)];
+        assert_eq!(reset(&vector.file, &mut state), Ok(state.len()), "{name}");
+        assert_eq!(state, trace.reset, "{name}");
+        for (
+            line,
+            Run {
+                inputs,
+                outputs,
+                state: next,
+            },
+        ) in trace.runs.iter().enumerate()
+        {
+            let mut words = vec![0xa5; outputs_len(&checked)];
+            let untouched = words.clone();
+            let answer = run(&vector.file, &mut state, inputs, &mut words);
+            match outputs {
+                Ok(outputs) => {
+                    clocks += 1;
+                    assert_eq!(answer, Ok(outputs.len()), "{name}, run {line}");
+                    assert_eq!(words, *outputs, "{name}, run {line}");
+                }
+                Err(refusal) => {
+                    refused += 1;
+                    assert_eq!(answer, Err(*refusal), "{name}, run {line}");
+                    assert_eq!(words, untouched, "{name}, run {line}");
+                }
+            }
+            assert_eq!(state, *next, "{name}, run {line}");
+        }
+    }
+    println!("{clocks} clocks and {refused} refused runs");
+    assert!(clocks > 0);
+}
+
+fn rewrite(rewrite: OnBytes) {
+    let vectors = vectors::all();
+    let mut accepted = 0;
+    for vector in &vectors {
+        let mut out = vec![0xa5; MAX_FILE];
+        let mut expected = out.clone();
+        if let Ok(rewritten) = &vector.rewritten {
+            expected[..rewritten.len()].copy_from_slice(rewritten);
+            accepted += 1;
+        }
+        let answer = rewrite(&vector.file, &mut out);
+        let lengths = vector.rewritten.as_ref().map(Vec::len);
+        assert_eq!(answer, lengths.map_err(|r| *r), "{}", vector.name);
+        assert!(out == expected, "{}: other bytes", vector.name);
+    }
+    println!("{} files rewritten, {accepted} accepted", vectors.len());
+    assert!(accepted > 0);
+}

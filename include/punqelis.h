@@ -1,0 +1,84 @@
+/*
+ * Punqelis: checks, runs and rewrites netlist files.
+ *
+ * A netlist file describes a clocked circuit of ports, registers, ROMs and gates. The rewriter
+ * turns every asynchronous ROM into a clocked one, so that the new file's outputs equal the old
+ * file's from reset on, clock by clock.
+ *
+ * Every function answers one number:
+ *   below 65,536   accepted, and the number is a length in bytes (see each function);
+ *   from 65,536 on refused, and the number is the refusal's number times 65,536 plus its place.
+ * PUNQELIS_IS_REFUSED and the two macros after it take an answer apart.
+ *
+ * Words. States, inputs and outputs are lists of words of two bytes each, the high byte first:
+ *   state    one word for each register and clocked ROM, in the order of their node numbers;
+ *   inputs   one word for each input port, in the order of their node numbers;
+ *   outputs  one word for each output port, in the order of their node numbers.
+ * Their lengths must be exact. Each word must be below 2 to the power of its node's width.
+ *
+ * Memory. The caller lends the memory that is read and written; none of it is kept after a call.
+ * A pointer must not be NULL, also where its length is 0. Memory that a function writes (state,
+ * outputs, out) must not overlap with any other memory lent to the same call. When a call is
+ * refused, no lent byte has changed. Bytes past the length that is answered are never changed.
+ *
+ * Refusals, in the order in which they are looked for:
+ *    1 long         the file has over 46,000 bytes                        place 0
+ *    2 short        a field passes the file's end, or the end is missing  offset in the file
+ *    3 tag          unknown tag, wrong order, bad head or end, or more    offset in the file
+ *    4 table        bad size or length, 17th table, word too wide         offset in the file
+ *    5 node         bad kind, operation, width or length, 1,025th node,   offset in the file
+ *                   reset word or constant too wide
+ *    6 source       no such node or table, or an output port as source    lowest such node
+ *    7 width        a width rule is broken                                lowest such node
+ *    8 unread       no reader, and not a port                             lowest such node
+ *    9 loop         a loop of gates and asynchronous ROMs                 lowest node on one
+ *   10 ring         a ring of registers alone                             lowest node on one
+ *   11 closed debt  more asynchronous ROMs than registers on a ring       place 65,535
+ *   12 port debt    too few registers behind an input port                lowest such port
+ *   13 grown        the rewritten netlist has over 1,024 nodes            place 65,535
+ *   14 out          out is shorter than the rewritten file                place 65,535
+ *   15 words        inputs or outputs do not fit the file                 place 65,535
+ *   16 state        the state does not fit the file                       place 65,535
+ */
+#ifndef PUNQELIS_H
+#define PUNQELIS_H
+
+#include <stddef.h>
+#include <stdint.h>
+
+#define PUNQELIS_IS_REFUSED(answer) ((answer) >= 65536u)
+#define PUNQELIS_REFUSAL(answer) ((answer) / 65536u)
+#define PUNQELIS_PLACE(answer) ((answer) % 65536u)
+
+/* No file that is accepted, and no rewritten one, is longer. */
+#define PUNQELIS_MAX_FILE 46000
+
+#ifdef __cplusplus
+extern "C" {
+#endif
+
+/* Checks a file (1 to 10). Answers file_len. */
+uint32_t punqelis_check(const uint8_t *file, size_t file_len);
+
+/* Fills the state with the file's reset words. Checks 1 to 10, then the state's length by 16;
+ * what the state held before does not matter. Answers state_len. */
+uint32_t punqelis_reset(const uint8_t *file, size_t file_len,
+                        uint8_t *state, size_t state_len);
+
+/* Runs one clock: writes the outputs and puts the next state in the state's place. Checks 1 to
+ * 10, then 15 and 16. A refused run is no clock. Answers outputs_len. */
+uint32_t punqelis_run(const uint8_t *file, size_t file_len,
+                      uint8_t *state, size_t state_len,
+                      const uint8_t *inputs, size_t inputs_len,
+                      uint8_t *outputs, size_t outputs_len);
+
+/* Writes the rewritten file to the start of out, which may be longer than needed
+ * (PUNQELIS_MAX_FILE is always enough). Checks 1 to 14. Answers the rewritten file's length. */
+uint32_t punqelis_rewrite(const uint8_t *file, size_t file_len,
+                          uint8_t *out, size_t out_len);
+
+#ifdef __cplusplus
+}
+#endif
+
+#endif
