@@ -1,9 +1,9 @@
 -- Every word of a behaviour fits its node's width, where the input words fit. Assumes nothing.
 use mathlib.Core.Path.{_≡_, refl, sym, subst}
-use mathlib.Core.Logic.{_⊎_, ⊎-elim}
+use mathlib.Core.Logic.{⊎-elim}
 use mathlib.Core.Bool.{Bool, true, false, false≢true}
 use mathlib.Core.List.{List}
-use Prim.Native.Nat.{ℕ, zero, suc, _+_, _-_, _*_, _^_, _<_}
+use Prim.Native.Nat.{ℕ, zero, suc, _+_, _*_, _^_, _<_}
 use native.Mathlib.Nat.{not-suc-le-zero, mod-lt}
 use native.Mathlib.Omega.{arith}
 use lib.ListN.{length, getD, List·getD-eq-default}
@@ -21,9 +21,10 @@ use Rattle.lists.specs.BelowLaws.{true-or-false, lt-or-le}
 use Rattle.netlist.specs.Net.{Table, Net, size, elementAt, widthAt, source, operands, arity, tableNo, delayed, heldAt, gives, withinClock, within-few, inClock, isInput, isMemory, tableOf, contentsIn, contentsAt, portOf, Behaves, Sourced, Ranked, RankedIn}
 use Rattle.words.specs.Gates.{operandsOf, operate}
 use Rattle.netlist.specs.Checks.{OpWidths, OpFits, MemoryWidths, Widths, Fits, HasTable, tableIn, WellFormed}
-use Rattle.netlist.specs.Rank.{rounds, rounds-ranked, loopless-settles}
+use Rattle.netlist.specs.Rank.{rounds, rounds-ranked}
+use Rattle.behaviour.specs.Meaning.{settles}
 
-fits-at : {a w w′ : ℕ} → w ≡ w′ → a < 2 ^ w → a < 2 ^ w′
+pub fits-at : {a w w′ : ℕ} → w ≡ w′ → a < 2 ^ w → a < 2 ^ w′
 fits-at {a} e h = subst (λ (k : ℕ). a < 2 ^ k) e h
 
 one-fits : (b : Bool) (w : ℕ) → w ≡ 1 → one b < 2 ^ w
@@ -31,7 +32,7 @@ one-fits true w e = rw e (lit< tt)
 one-fits false w e = rw e (lit< tt)
 
 module _ (w : ℕ) (ws d : ℕ → ℕ) where
-  operate-fits : (o : Op) → OpWidths o w ws → OpFits o w → ((p : ℕ) → p < operandsOf o → d p < 2 ^ ws p) → operate o w ws d < 2 ^ w
+  pub operate-fits : (o : Op) → OpWidths o w ws → OpFits o w → ((p : ℕ) → p < operandsOf o → d p < 2 ^ ws p) → operate o w ws d < 2 ^ w
   unfolding operate
   operate-fits (Constant c) r f h = f
   operate-fits Not r f h = ones-sub-lt w (d 0)
@@ -52,7 +53,7 @@ module _ (w : ℕ) (ws d : ℕ → ℕ) where
 pub AllFit : List ℕ → ℕ → Type 0
 AllFit M w = (a : ℕ) → a < length M → getD M a 0 < 2 ^ w
 
-word-fits : (M : List ℕ) (w a : ℕ) → AllFit M w → getD M a 0 < 2 ^ w
+pub word-fits : (M : List ℕ) (w a : ℕ) → AllFit M w → getD M a 0 < 2 ^ w
 unfolding AllFit
 word-fits M w a fit = ⊎-elim (λ k. fit a k) (λ k. rw (List·getD-eq-default M 0 k) (pow-pos w)) (lt-or-le a (length M))
 
@@ -90,6 +91,13 @@ rom-widths ts (Async k) w ws h r m = (m, memory-wide k (tableIn ts (tableNo k)) 
 rom-widths ts (Clocked k q) w ws h r m = (m, memory-wide k (tableIn ts (tableNo k)) w ws r)
 rom-widths ts (Gate o) w ws h r m = absurd (false≢true h)
 
+-- the contents of a ROM fit it
+pub contents-fit : (N : Net) → WellFormed N → (v : ℕ) → v < size N → isMemory (elementAt N v) ≡ true → AllFit (contentsAt N v) (widthAt N v)
+unfolding contentsAt contentsIn AllFit
+contents-fit N ok v h e a l =
+    let r = rom-widths (N .tables) (elementAt N v) (widthAt N v) (λ p. widthAt N (source N v p)) e (ok .widths v h) (ok .has-table v h) in
+    fits-at (sym (r .1)) (ok .fields .tables-fit (tableOf (elementAt N v)) (r .0) .each-fits a l)
+
 module _ (N : Net) (ok : WellFormed N) (ins B : ℕ → ℕ → ℕ) (hB : Behaves N ins B)
     (inputs : (t v : ℕ) → v < size N → isInput (elementAt N v) ≡ true → ins t (portOf N v) < 2 ^ widthAt N v) where
   rank : ℕ → ℕ
@@ -97,13 +105,7 @@ module _ (N : Net) (ok : WellFormed N) (ins B : ℕ → ℕ → ℕ) (hB : Behav
 
   ranked : Ranked N rank
   unfolding rank
-  ranked = rounds-ranked inClock N (ok .sourced) (loopless-settles inClock N (ok .sourced) (ok .no-loop))
-
-  contents-fit : (v : ℕ) → v < size N → isMemory (elementAt N v) ≡ true → AllFit (contentsAt N v) (widthAt N v)
-  unfolding contentsAt contentsIn AllFit
-  contents-fit v h e a l =
-      let r = rom-widths (N .tables) (elementAt N v) (widthAt N v) (λ p. widthAt N (source N v p)) e (ok .widths v h) (ok .has-table v h) in
-      fits-at (sym (r .1)) (ok .fields .tables-fit (tableOf (elementAt N v)) (r .0) .each-fits a l)
+  ranked = rounds-ranked inClock N (ok .sourced) (settles N ok)
 
   level : (t k : ℕ) → ((s v : ℕ) → s < t → v < size N → B s v < 2 ^ widthAt N v) → (v : ℕ) → v < size N → rank v < k → B t v < 2 ^ widthAt N v
   unfolding Behaves Sourced RankedIn
@@ -111,7 +113,7 @@ module _ (N : Net) (ok : WellFormed N) (ins B : ℕ → ℕ → ℕ) (hB : Behav
   level t (suc k) earlier v h l =
       subst (λ (n : ℕ). n < 2 ^ widthAt N v) (sym (hB t v h))
       (gives-fits (N .tables) (contentsAt N v) (widthAt N v) (λ p. widthAt N (source N v p)) (λ s. ins s (portOf N v)) (λ p s. B s (source N v p)) t (elementAt N v)
-      (ok .widths v h) (ok .fields .word-fits v h) (contents-fit v h) (inputs t v h)
+      (ok .widths v h) (ok .fields .word-fits v h) (contents-fit N ok v h) (inputs t v h)
       (λ p q. level t k earlier (source N v p) (ok .sourced v p h (omega (arith, within-few (elementAt N v)))) (omega (arith, ranked v p h q)))
       (λ p q s r. earlier s (source N v p) r (ok .sourced v p h q)))
 

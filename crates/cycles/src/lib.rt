@@ -2,10 +2,14 @@
 use index::node;
 use index::wide;
 use order::Steps;
+use order::Walk;
 use order::counted;
 use order::flag_at;
+use order::next_unmet;
+use order::number_at;
 use order::order_nodes;
 use order::put_flag;
+use order::put_number;
 ghost use mathlib.Core.Path.{_≡_};
 ghost use mathlib.Core.Bool.{_||_};
 ghost use Prim.Native.Nat.{_+_, _<_, _≤_};
@@ -68,6 +72,28 @@ fn touch(
     }
 }
 
+// The same where u is a node.
+fn touch_if(
+    file: &[u8],
+    tables: &[u16],
+    nodes: &[u16],
+    steps: Steps,
+    s: usize,
+    u: usize,
+    marks: &mut [u8],
+    k: usize,
+) -> usize
+    requires { ⌜ Found (now file) (now tables) (now nodes) × Sourced (netIn (now file) (now tables) (now nodes)) × (k ≤ 1024)
+        × Reached (classOf steps) (netIn (now file) (now tables) (now nodes)) s (now marks) k ⌝ }
+    ensures { λ r. ⌜ (k ≤ r) × Reached (classOf steps) (netIn (now (file .entry)) (now (tables .entry)) (now (nodes .entry))) s (now (marks .exit)) r ⌝ }
+{
+    if u < nodes.len() {
+        touch(file, tables, nodes, steps, s, u, marks, k)
+    } else {
+        k
+    }
+}
+
 // One round from the start s over all nodes.
 fn spread(
     file: &[u8],
@@ -91,6 +117,134 @@ fn spread(
     k
 }
 
+// ---- a hint for the rounds: the order in which a depth-first walk over all nodes leaves them, sources before readers. Nobody trusts it.
+
+// One step of the walk: down to a source not met yet, or back, noting the node.
+fn note_step(
+    file: &[u8],
+    tables: &[u16],
+    nodes: &[u16],
+    steps: Steps,
+    stack: &mut [u16],
+    met: &mut [u8],
+    hint: &mut [u16],
+    at: Walk,
+) -> Walk
+    requires { ⌜ Found (now file) (now tables) (now nodes) × (at .depth ≤ 65535) × (at .placed ≤ 65535) ⌝ }
+    ensures { λ r. ⌜ (r .depth ≤ at .depth + 1) × (r .placed ≤ at .placed + 1) ⌝ }
+{
+    let depth = at.depth;
+    let placed = at.placed;
+    if depth == 0 {
+        return Walk { depth, placed };
+    }
+    let v = wide(number_at(stack, depth - 1));
+    if nodes.len() <= v {
+        return Walk {
+            depth: depth - 1,
+            placed,
+        };
+    }
+    let u = next_unmet(file, tables, nodes, steps, v, met);
+    if u < nodes.len() {
+        put_flag(met, u, 1);
+        put_number(stack, depth, u as u16);
+        return Walk {
+            depth: depth + 1,
+            placed,
+        };
+    }
+    put_number(hint, placed, v as u16);
+    Walk {
+        depth: depth - 1,
+        placed: placed + 1,
+    }
+}
+
+// Notes a node, and first what it reads, as far as a walk of so many steps gets; gives how many are noted.
+fn note_from(
+    file: &[u8],
+    tables: &[u16],
+    nodes: &[u16],
+    steps: Steps,
+    root: usize,
+    stack: &mut [u16],
+    met: &mut [u8],
+    hint: &mut [u16],
+    start: usize,
+) -> usize
+    requires { ⌜ Found (now file) (now tables) (now nodes) × (root < length (now nodes)) × (start ≤ 16384) ⌝ }
+    ensures { λ r. ⌜ r ≤ 65535 ⌝ }
+{
+    if 0 < flag_at(met, root) {
+        return start;
+    }
+    put_flag(met, root, 1);
+    put_number(stack, 0, root as u16);
+    let mut at = Walk {
+        depth: 1,
+        placed: start,
+    };
+    let mut left: usize = 2048;
+    while 0 < left {
+        if at.depth == 0 {
+            return at.placed;
+        }
+        at = note_step(file, tables, nodes, steps, stack, met, hint, at);
+        left = left - 1;
+    }
+    at.placed
+}
+
+fn note_all(file: &[u8], tables: &[u16], nodes: &[u16], steps: Steps, hint: &mut [u16])
+    requires { ⌜ Found (now file) (now tables) (now nodes) ⌝ }
+    ensures { λ _. ⌜ length (now (hint .exit)) ≡ length (now (hint .entry)) ⌝ }
+{
+    let mut stack = [0u16; 1024];
+    let mut met = [0u8; 1024];
+    let mut noted: usize = 0;
+    let mut root: usize = 0;
+    while root < nodes.len() {
+        // No node is noted twice, so the cut never bites.
+        noted = note_from(
+            file,
+            tables,
+            nodes,
+            steps,
+            root,
+            &mut stack,
+            &mut met,
+            hint,
+            noted % 16384,
+        );
+        root = root + 1;
+    }
+}
+
+// One round from the start s over the nodes of the hint, in its order.
+fn spread_by(
+    file: &[u8],
+    tables: &[u16],
+    nodes: &[u16],
+    steps: Steps,
+    s: usize,
+    hint: &[u16],
+    marks: &mut [u8],
+    start: usize,
+) -> usize
+    requires { ⌜ Found (now file) (now tables) (now nodes) × Sourced (netIn (now file) (now tables) (now nodes))
+        × Reached (classOf steps) (netIn (now file) (now tables) (now nodes)) s (now marks) start ⌝ }
+    ensures { λ r. ⌜ (start ≤ r) × Reached (classOf steps) (netIn (now (file .entry)) (now (tables .entry)) (now (nodes .entry))) s (now (marks .exit)) r ⌝ }
+{
+    let mut k = start;
+    let mut i: usize = 0;
+    while i < hint.len() {
+        k = touch_if(file, tables, nodes, steps, s, wide(hint[i]), marks, k);
+        i = i + 1;
+    }
+    k
+}
+
 fn clear(marks: &mut [u8])
     ensures { λ _. ⌜ now (marks .exit) ≡ replicate (length (now (marks .entry))) 0 ⌝ }
 {
@@ -101,23 +255,26 @@ fn clear(marks: &mut [u8])
     }
 }
 
-// The search: from each node in turn rounds spread its mark until it comes back, which ends the search, or nothing changes.
+// The search: from each node in turn rounds spread its mark until it comes back, which ends the search, or a round over all nodes changes nothing.
 fn lowest_on_cycle(file: &[u8], tables: &[u16], nodes: &[u16], steps: Steps) -> usize
     requires { ⌜ Found (now file) (now tables) (now nodes) × Sourced (netIn (now file) (now tables) (now nodes)) ⌝ }
     ensures { λ r. ⌜ r ≡ lowest (length (now (nodes .entry))) (reachesItself (classOf steps) (netIn (now (file .entry)) (now (tables .entry)) (now (nodes .entry)))) ⌝ }
 {
     let n = nodes.len();
     let mut marks = [0u8; 1024];
+    let mut hint = [0u16; 1024];
+    note_all(file, tables, nodes, steps, &mut hint);
     let mut s: usize = 0;
     'search: while s < n {
         clear(&mut marks);
         let mut marked: usize = 0;
         loop {
-            let more = spread(file, tables, nodes, steps, s, &mut marks, marked);
+            let near = spread_by(file, tables, nodes, steps, s, &hint, &mut marks, marked);
+            let more = spread(file, tables, nodes, steps, s, &mut marks, near);
             if 0 < flag_at(&marks, s) {
                 break 'search;
             }
-            if more == marked {
+            if more == near {
                 break;
             }
             marked = more;

@@ -1,7 +1,7 @@
 // The nodes and tables of an indexed file by their numbers. A number that no node or table has reads as the definitions say.
-use netlist::Element;
 use netlist::Node;
 use reader::node_at;
+use reader::output_at;
 use reader::table_bits;
 use reader::table_width;
 use reader::width_at;
@@ -36,27 +36,12 @@ pub fn width(file: &[u8], tables: &[u16], nodes: &[u16], v: usize) -> u8
     }
 }
 
-fn output_element(e: Element) -> bool
-    ensures { λ r. ⌜ r ≡ isOutput e ⌝ }
-{
-    match e {
-        Element::Input => false,
-        Element::Output => true,
-        Element::Register(_) => false,
-        Element::Async(_) => false,
-        Element::Clocked(_, _) => false,
-        Element::Gate(_) => false,
-    }
-}
-
 pub fn output_port(file: &[u8], tables: &[u16], nodes: &[u16], v: usize) -> bool
     requires { ⌜ Found (now file) (now tables) (now nodes) ⌝ }
     ensures { λ r. ⌜ r ≡ isOutput (elementAt (netIn (now (file .entry)) (now (tables .entry)) (now (nodes .entry))) v) ⌝ }
 {
     if v < nodes.len() {
-        let x = node(file, tables, nodes, v);
-        let e = x.element;
-        output_element(e)
+        output_at(file, wide(nodes[v]))
     } else {
         false
     }

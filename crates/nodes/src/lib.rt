@@ -33,7 +33,7 @@ fn gate_len(op: usize) -> usize
 }
 
 // The operation that is its number alone.
-fn plain_op(k: u8) -> Op
+pub fn plain_op(k: u8) -> Op
     requires { ⌜ (0 < k) × (k < 12) ⌝ }
     ensures { λ r. ⌜ r ≡ plainOp k ⌝ }
 {
@@ -191,7 +191,7 @@ pub fn source_count(e: Element) -> usize
 }
 
 // Where the first source of an element stands.
-fn first_source(e: Element) -> usize
+pub fn first_source(e: Element) -> usize
     ensures { λ r. ⌜ r ≡ firstSource e ⌝ }
 {
     match e {
@@ -213,7 +213,7 @@ fn word_if(s: &[u8], at: usize, i: usize, n: usize) -> u16
 }
 
 // At most three sources, from the place of the first.
-fn sources_from(s: &[u8], at: usize, n: usize) -> [u16; 3]
+pub fn sources_from(s: &[u8], at: usize, n: usize) -> [u16; 3]
     requires { ⌜ at + 2 * n ≤ length (now s) ⌝ }
     ensures { λ r. ⌜ r ≡ sourcesFrom (now (s .entry)) at n ⌝ }
 {
@@ -249,5 +249,15 @@ pub fn node_of(s: &[u8]) -> NodeRead
                 },
             }
         }
+    }
+}
+
+// Whether a content is well made, and no more: what check 5 asks of a field.
+pub fn content_good(s: &[u8]) -> bool
+    ensures { λ r. ⌜ r ≡ nodeRead (now (s .entry)) .good ⌝ }
+{
+    match element_of(s) {
+        ElementRead::Bad => false,
+        ElementRead::Found(_) => true,
     }
 }

@@ -202,7 +202,7 @@ pub struct Walk {
 }
 
 // The first source of v that counts and was not met yet, or the number of nodes.
-fn next_unmet(
+pub fn next_unmet(
     file: &[u8],
     tables: &[u16],
     nodes: &[u16],

@@ -1,8 +1,15 @@
 // Reads the fields of a file, checks 1 to 5, and keeps an index of them: the offsets of the table fields and of the node fields.
+use netlist::Element;
+use netlist::Memory;
 use netlist::Node;
 use netlist::Scanned;
 use netlist::Step;
-use nodes::node_of;
+use nodes::content_good;
+use nodes::first_source;
+use nodes::plain_op;
+use nodes::source_count;
+use nodes::sources_from;
+use words::Op;
 use words::fits_width;
 use words::word_at;
 ghost use mathlib.Core.Path.{_≡_};
@@ -15,7 +22,9 @@ ghost use Rattle.netlist.specs.Field.{fieldEnd, content};
 ghost use Rattle.netlist.specs.TableField.{tableGood};
 ghost use Rattle.netlist.specs.Scan.{tableStep, nodeStep, endStep, stepAt, scan};
 ghost use Rattle.netlist.specs.ScanLaws.{TableAt, NodeAt};
+ghost use Rattle.netlist.specs.Net.{isOutput};
 ghost use Rattle.netlist.specs.File.{tableIn, nodeIn};
+ghost use Rattle.nodes.specs.Unchecked.{opUnchecked};
 ghost use Rattle.reader.specs.Index.{scannedOf, Indexed, Headed};
 
 fn larger(a: u16, b: u16) -> u16
@@ -102,7 +111,7 @@ fn node_step(file: &[u8], at: usize, n: usize) -> Step
     if n < 1024 {
         let from = at + 3;
         let to = from + word_at(file, at + 1) as usize;
-        if node_of(&file[from..to]).good {
+        if content_good(&file[from..to]) {
             Step::NodeField(to)
         } else {
             Step::Refuse(5, at as u16)
@@ -205,14 +214,63 @@ pub fn scan_fields(file: &[u8], tables: &mut [u16], nodes: &mut [u16]) -> Scanne
     }
 }
 
+// The operation of the gate whose field stands at an offset. The field passed check 5, so its bytes are read without tests.
+fn op_at(file: &[u8], at: usize) -> Op
+    requires { ⌜ NodeAt (now file) at × (getD (now file) (at + 3) 0 ≡ 5) ⌝ }
+    ensures { λ r. ⌜ r ≡ opUnchecked (content (now (file .entry)) at) ⌝ }
+{
+    let k = file[at + 5];
+    match k {
+        0 => Op::Constant(word_at(file, at + 6)),
+        10 => Op::Part(file[at + 8]),
+        _ => plain_op(k),
+    }
+}
+
+fn element_at(file: &[u8], at: usize) -> Element
+    requires { ⌜ NodeAt (now file) at ⌝ }
+    ensures { λ r. ⌜ r ≡ nodeIn (now (file .entry)) at .element ⌝ }
+{
+    let kind = file[at + 3];
+    match kind {
+        0 => Element::Input,
+        1 => Element::Output,
+        2 => Element::Register(word_at(file, at + 7)),
+        3 => Element::Async(Memory {
+            table: file[at + 7],
+        }),
+        4 => Element::Clocked(
+            Memory {
+                table: file[at + 7],
+            },
+            word_at(file, at + 8),
+        ),
+        _ => Element::Gate(op_at(file, at)),
+    }
+}
+
 // The node whose field stands at an offset.
 pub fn node_at(file: &[u8], at: usize) -> Node
     requires { ⌜ NodeAt (now file) at ⌝ }
     ensures { λ r. ⌜ r ≡ nodeIn (now (file .entry)) at ⌝ }
 {
-    let from = at + 3;
-    let to = from + word_at(file, at + 1) as usize;
-    node_of(&file[from..to]).node
+    let element = element_at(file, at);
+    let from = at + 3 + first_source(element);
+    let n = source_count(element);
+    let sources = sources_from(file, from, n);
+    Node {
+        element,
+        width: file[at + 4],
+        sources,
+    }
+}
+
+// Whether it is an output port.
+pub fn output_at(file: &[u8], at: usize) -> bool
+    requires { ⌜ NodeAt (now file) at ⌝ }
+    ensures { λ r. ⌜ r ≡ isOutput (nodeIn (now (file .entry)) at .element) ⌝ }
+{
+    file[at + 3] == 1
 }
 
 // Its width alone.

@@ -68,10 +68,6 @@ module _ (N : Net) where
   unfoldable pub leadAfter : ℕ → ℕ → ℕ
   leadAfter k u = getD (leadsAfter N k) u 0
 
-  leadAfter-suc : (k u : ℕ) → leadAfter (suc k) u ≡ getD (relax N (leadsAfter N k)) u 0
-  unfolding leadAfter leadsAfter
-  leadAfter-suc k u = refl
-
   leadAfter-zero : (u : ℕ) → u < size N → leadAfter 0 u ≡ 0
   unfolding leadAfter leadsAfter
   leadAfter-zero u h = getD-replicate (size N) u 0 0 h

@@ -1,8 +1,8 @@
 -- The rewritten netlist's sources are its nodes, and it has a rank: leads first, old ranks within a lead. Assumes nothing.
 use mathlib.Core.Path.{_≡_, refl, sym, ap, _∙_, subst}
-use mathlib.Core.Logic.{_⊎_, ⊎-elim}
+use mathlib.Core.Logic.{⊎-elim}
 use mathlib.Core.Bool.{false, cond}
-use Prim.Native.Nat.{ℕ, zero, suc, _+_, _-_, _*_, _≤_, _<_, zero-le, suc-le-suc}
+use Prim.Native.Nat.{ℕ, zero, suc, _+_, _*_, _≤_, _<_, zero-le, suc-le-suc}
 use native.Mathlib.Nat.{not-suc-le-zero, mul-le-mul-right}
 use native.Mathlib.Omega.{arith}
 use lib.ListN.{length, getD}
@@ -29,12 +29,6 @@ unfolding passed
 passed-at-most N s = passed-le N (size N) s
 
 module _ (N : Net) (f : Timing) (Z : ℕ → ℕ → ℕ) (ok : Retimes N f) where
-  abbrev alongOk : (x c p j : ℕ) → Stands N f Z x c → p < operands (elementAt N x) → Numbered N f Z (along N f Z x c p j)
-  alongOk x c p j s q = numbered N f Z (along N f Z x c p j) (along-sound N f Z (ok .sourced) (ok .rooted) (ok .serves) x c p s q j)
-
-  pub along-numbered : (x c p j : ℕ) → Stands N f Z x c → p < operands (elementAt N x) → Numbered N f Z (along N f Z x c p j)
-  along-numbered x c p j s q = alongOk x c p j s q
-
   -- the sources of a place are numbers of sound places
   pub record From (pl : Place) (p : ℕ) : Type 0 where
     pub place : Place

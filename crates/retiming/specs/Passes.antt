@@ -1,6 +1,6 @@
 -- The rewritten netlist passes the checks 4 to 10. Assumes nothing.
 use mathlib.Core.Path.{_≡_, refl, sym, ap, ap₂, _∙_, subst}
-use mathlib.Core.Logic.{_⊎_, ⊎-elim}
+use mathlib.Core.Logic.{⊎-elim}
 use mathlib.Core.Bool.{Bool, true, false}
 use mathlib.Core.List.{List}
 use Prim.Native.Nat.{ℕ, zero, suc, _+_, _-_, _^_, _≤_, _<_, zero-le, suc-le-suc}
@@ -21,13 +21,14 @@ use Rattle.retiming.specs.Rewrite.{Timing, oldOn, Place, Entry, Reg, own
 use Rattle.netlist.specs.Rank.{no-loop}
 use Rattle.behaviour.specs.Fits.{rom-widths}
 use Rattle.netlist.specs.Checks.{Widths, Fits, HasTable, tableIn, TableFits, Bounds, WellFormed}
+use Rattle.retiming.specs.Elements.{register-no-port}
 use Rattle.retiming.specs.Wires.{delay, width-root}
 use Rattle.retiming.specs.Layout.{noPlace, Stands, Sound, along-reg, along-end, stays-is, stays-if, copy-none}
 use Rattle.retiming.specs.Candidate.{Retimes, word-before, word-after, node-numbered, sources, source-new, used-new, operands-new, count-rom, width-along}
 use Rattle.retiming.specs.New.{From, from, place-reads, at-node, placed-rank, new-sourced, new-rank, new-ranked}
 use Rattle.retiming.specs.Numbers.{number-of-place}
 use Rattle.retiming.specs.Rules.{SizedAlike, widths-new, fits-new, table-new, input-new, output-new, register-new, registers-fit}
-use Rattle.retiming.specs.Standing.{Wanted, wanted, register-no-port, Wire, wire-from, plain-copies, stands-some}
+use Rattle.retiming.specs.Standing.{Wanted, wanted, Wire, wire-from, plain-copies, stands-some}
 
 -- ---- the new nodes
 
@@ -76,10 +77,6 @@ module _ (N : Net) (f : Timing) (wf : WellFormed N) (ok : Retimes N f) (jns Z : 
   unfolding nodeOf
   place-table (Entry u c) s = table-new (newTables N f Z) (elementAt N u) (newTable N f Z u) c (λ e. sized-new u (s .inside) e .there)
   place-table (Reg x c p j) s = tt
-
-  width-at : (pl : Place) → Sound N f Z pl → widthAt (rewrittenWith N f Z) (numberOf N f Z pl) ≡ nodeOf N f Z pl .width
-  unfolding widthAt
-  width-at pl s = ap (λ (n : Node). n .width) (node-numbered N f Z pl s)
 
   place-widths : (pl : Place) → Sound N f Z pl
       → Widths (newTables N f Z) (nodeOf N f Z pl .element) (nodeOf N f Z pl .width) (λ p. widthAt (rewrittenWith N f Z) (getD (nodeOf N f Z pl .sources) p 0))

@@ -1,25 +1,23 @@
 -- A netlist rewritten over any timing that serves it is alike to the old one, and has no asynchronous ROM; document 01's timing serves it where 11 and 12
 -- do not apply. Assumes nothing.
 use mathlib.Core.Path.{_≡_, refl, sym, ap, _∙_}
-use mathlib.Core.Logic.{_⊎_, ⊎-elim}
-use mathlib.Core.Bool.{true, false, _&&_, true≢false}
+use mathlib.Core.Bool.{true, false, true≢false}
 use mathlib.Core.List.{List, []}
-use Prim.Native.Nat.{ℕ, _-_, _^_, _<_, zero-le}
-use native.Mathlib.Omega.{arith}
+use Prim.Native.Nat.{ℕ, _^_, _<_, zero-le}
 use lib.ListN.{getD}
-use lib.Dec.{ltb, lt→ltb}
 use lib.Pow.{pow-pos}
-use Rattle.lists.specs.BelowLaws.{T→true, lt-or-le, anyBelow-none}
+use Rattle.lists.specs.BelowLaws.{anyBelow-none}
 use Rattle.netlist.specs.Net.{Net, size, elementAt, widthAt, isInput, isOutput, isAsync, Behaves}
 use Rattle.behaviour.specs.Run.{runWord, zeroWord, outputsAt, runOutputs}
 use Rattle.retiming.specs.Leads.{lead, closedDebt, owingPort, portDebt}
 use Rattle.retiming.specs.Rewrite.{Timing, timingBy, timing, rewrittenWith, rewritten}
-use Rattle.behaviour.specs.Meaning.{the-run-behaves}
+use Rattle.behaviour.specs.Meaning.{settles, the-run-behaves}
 use Rattle.netlist.specs.Checks.{Bounds, WellFormed}
 use Rattle.behaviour.specs.Fits.{words-fit}
-use Rattle.behaviour.specs.Alike.{Alike, settles}
+use Rattle.behaviour.specs.Alike.{Alike}
 use Rattle.retiming.specs.Wires.{ServesKept, ringless-rooted}
 use Rattle.retiming.specs.LeadsLaws.{Serves, lead-serves, lead-unread}
+use Rattle.retiming.specs.Owing.{no-lead}
 use Rattle.retiming.specs.Candidate.{Retimes}
 use Rattle.retiming.specs.New.{new-sourced, new-settles}
 use Rattle.retiming.specs.Words.{new-words}
@@ -64,11 +62,8 @@ module _ (N : Net) (wf : WellFormed N) where
 
 module _ (N : Net) (wf : WellFormed N) (debtless : closedDebt N ≡ false) (portless : portDebt N ≡ false) where
   input-lead : (v : ℕ) → v < size N → isInput (elementAt N v) ≡ true → lead N v ≡ 0
-  unfolding portDebt owingPort
-  input-lead v h e = ⊎-elim (λ l. absurd (true≢false (sym (owing l) ∙ anyBelow-none (size N) (owingPort N) portless v h))) (λ l. omega arith) (lt-or-le 0 (lead N v))
-    where
-      owing : 0 < lead N v → (isInput (elementAt N v) && ltb 0 (lead N v)) ≡ true
-      owing l = rw e (T→true (lt→ltb 0 (lead N v) l))
+  unfolding portDebt
+  input-lead v h e = no-lead N v (anyBelow-none (size N) (owingPort N) portless v h) e
 
   output-lead : (v : ℕ) → v < size N → isOutput (elementAt N v) ≡ true → lead N v ≡ 0
   output-lead v h e =

@@ -13,7 +13,8 @@ use Rattle.netlist.specs.Net.{Table, Net, size, elementAt, widthAt, source, ope
 use Rattle.behaviour.specs.Run.{zeroWord}
 use Rattle.retiming.specs.Leads.{leads}
 
--- From a node go back through registers, at most k of them: the node where this ends, and how many registers were passed
+-- ---- wires. "A wire joins a source u that is no register to one operand of a reader x that is no register": an edge of Leiserson and Saxe's graph, weighted with
+-- its registers. From the operand's source go back through registers, at most k of them: the root u where this ends, and how many registers were passed
 module _ (N : Net) where
   unfoldable pub rootIn : ℕ → ℕ → ℕ
   rootIn zero s = s
@@ -72,29 +73,29 @@ module _ (N : Net) (f : Timing) (Z : ℕ → ℕ → ℕ) where
   unfoldable pub stays : ℕ → Bool
   stays x = not (isRegister (elementAt N x)) && f .keeps x
 
-  -- where the wire to operand p of x comes from, and its registers before the rewriting, a ROM's own one included
+  -- where the wire to operand p of x comes from, and its registers before the rewriting: "w registers, a clocked ROM's own one included"
   abbrev pub rootOn : ℕ → ℕ → ℕ
   rootOn x p = root N (source N x p)
 
   unfoldable pub oldOn : ℕ → ℕ → ℕ
   oldOn x p = passed N (source N x p) + ownHere N (rootOn x p)
 
-  -- once rewritten
+  -- "Rewritten it has w + lead(u) - lead(x)"
   unfoldable pub registersOn : ℕ → ℕ → ℕ
   registersOn x p = (oldOn x p + f .lead (rootOn x p)) - f .lead x
 
-  -- those that are nodes of their own
+  -- "If u is a ROM, the register nearest it becomes the clocked ROM's own": how many are nodes of their own
   unfoldable pub countOn : ℕ → ℕ → ℕ
   countOn x p = registersOn x p - one (memoryAt N (rootOn x p))
 
-  -- the tables, and the number of node u's
+  -- "tables unchanged", and the number of node u's
   unfoldable pub newTables : List Table
   newTables = N .tables
 
   unfoldable pub newTable : ℕ → ℕ
   newTable u = tableOf (elementAt N u)
 
-  -- the j-th reset word, counted from the reader
+  -- "Counted from the reader, its j-th reset word (from 0) is what x would receive at clock j + lead(x) of the old netlist"
   unfoldable pub resetWord : ℕ → ℕ → ℕ → ℕ
   resetWord x p j = wordFrom (f .origin) Z (j + f .lead x) (source N x p)
 
@@ -102,7 +103,7 @@ module _ (N : Net) (f : Timing) (Z : ℕ → ℕ → ℕ) where
   unfoldable pub copyOn : ℕ → ℕ → ℕ
   copyOn x p = cond (memoryAt N (rootOn x p)) (resetWord x p (countOn x p)) 0
 
-  -- the reset words that the wires of u need, in order of reader, then operand; for what is no ROM, one node
+  -- "one clocked ROM for each different word, in the order of first reader, then operand"; for what is no ROM, one node
   unfoldable pub copiesAt : ℕ → ℕ → ℕ → List ℕ
   copiesAt u x p = only (eqb (rootOn x p) u) (copyOn x p)
 
@@ -112,9 +113,10 @@ module _ (N : Net) (f : Timing) (Z : ℕ → ℕ → ℕ) where
   unfoldable pub copies : ℕ → List ℕ
   copies u = cond (stays u) (cond (memoryAt N u) (distinct (concatMap (copiesOf u) (below (size N)))) (0 ∷ [])) []
 
-  -- ---- the places in file order
+  -- ---- the places in file order: "nodes other than registers in old order, extra ROMs right after their first; then the registers of each wire, by reader, by
+  -- operand, from source to reader. Wires share no registers"
 
-  -- what stands on the wires, by reader, its copies, and operand
+  -- what stands on the wires, by reader, its copies ("each extra ROM is a reader too, with a wire of its own"), and operand
   unfoldable pub wiresOf : (ℕ → ℕ → ℕ → List Place) → ℕ → ℕ → List Place
   wiresOf g x c = concatMap (g x c) (below (operands (elementAt N x)))
 

@@ -1,7 +1,7 @@
 -- Wires: a word comes through a wire's registers after as many clocks as there are registers (Delay), and the first words on a wire do not
 -- depend on the inputs (Independence). Assumes nothing.
 use mathlib.Core.Path.{_≡_, refl, sym, ap, _∙_, subst}
-use mathlib.Core.Logic.{_⊎_, ⊎-elim}
+use mathlib.Core.Logic.{⊎-elim}
 use mathlib.Core.Bool.{true, false, true≢false, false≢true}
 use Prim.Native.Nat.{ℕ, zero, suc, _+_, _-_, _≤_, _<_, zero-le}
 use native.Mathlib.Nat.{not-suc-le-zero, add-zero, add-suc}

@@ -24,7 +24,7 @@ same-length : tie.Need-same-length
 same-length c = c .before .before .before .lowest-cycle .kept .1 .1 .1 .1 .0
 
 returns : tie.Need-returns
-returns c = 
+returns c =
     let a = c .before .before .before .before .before .before .before .before .before .args in
     let N = netIn (a .file .now) (a .tables .now) (a .nodes .now) in
     let z = size-in (a .file .now) (a .tables .now) (a .nodes .now) in
@@ -43,7 +43,7 @@ same-length-2 : tie.Need-same-length-2
 same-length-2 c = c .before .before .before .before .before .before .before .lowest-cycle .kept .1 .1 .1 .1 .0
 
 returns-2 : tie.Need-returns-2
-returns-2 c = 
+returns-2 c =
     let a = c .before .before .before .before .before .before .before .before .before .before .before .before .before .args in
     let N = netIn (a .file .now) (a .tables .now) (a .nodes .now) in
     let z = size-in (a .file .now) (a .tables .now) (a .nodes .now) in
@@ -53,7 +53,7 @@ same-length-3 : tie.Need-same-length-3
 same-length-3 c = c .before .before .before .before .before .before .before .lowest-cycle .kept .1 .1 .1 .1 .0
 
 returns-3 : tie.Need-returns-3
-returns-3 c = 
+returns-3 c =
     let a = c .before .before .before .before .before .before .before .before .before .before .before .before .before .args in
     let N = netIn (a .file .now) (a .tables .now) (a .nodes .now) in
     let z = size-in (a .file .now) (a .tables .now) (a .nodes .now) in

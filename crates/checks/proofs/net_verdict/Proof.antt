@@ -16,7 +16,7 @@ cast-t10 : tie.Need-cast-t10
 cast-t10 c = omega (arith, c .before .before .before .before .before .before .pre .0 .few-nodes)
 
 returns : tie.Need-returns
-returns c = 
+returns c =
     let a = c .before .before .before .before .before .before .args in
     let N = netIn (a .file .now) (a .tables .now) (a .nodes .now) in
     let z = size-in (a .file .now) (a .tables .now) (a .nodes .now) in
@@ -29,7 +29,7 @@ cast-t11 : tie.Need-cast-t11
 cast-t11 c = omega (arith, c .before .before .before .before .before .before .before .before .pre .0 .few-nodes)
 
 returns-2 : tie.Need-returns-2
-returns-2 c = 
+returns-2 c =
     let a = c .before .before .before .before .before .before .before .before .args in
     let N = netIn (a .file .now) (a .tables .now) (a .nodes .now) in
     let z = size-in (a .file .now) (a .tables .now) (a .nodes .now) in
@@ -42,14 +42,14 @@ cast-t12 : tie.Need-cast-t12
 cast-t12 c = omega (arith, c .before .before .before .before .before .before .before .before .before .before .pre .0 .few-nodes)
 
 returns-3 : tie.Need-returns-3
-returns-3 c = 
+returns-3 c =
     let a = c .before .before .before .before .before .before .before .before .before .before .args in
     let N = netIn (a .file .now) (a .tables .now) (a .nodes .now) in
     let z = size-in (a .file .now) (a .tables .now) (a .nodes .now) in
     (eight-refuses N z (c .before .before .before .before .before .lowest-bad-source .ensures) (c .before .before .before .lowest-bad-width .ensures) (c .before .lowest-unread .ensures) (c .before .before .before .before .if1 .left) (c .before .before .if2 .left) (c .if3 .taken), λ q. absurd (let x : _≡_ {A = ℕ} 0 1 = cc in omega arith))
 
 cycles-verdict-requires : tie.Need-cycles-verdict-requires
-cycles-verdict-requires c κs = 
+cycles-verdict-requires c κs =
     let a = c .before .before .before .before .before .before .before .before .before .before .before .args in
     let N = netIn (a .file .now) (a .tables .now) (a .nodes .now) in
     let z = size-in (a .file .now) (a .tables .now) (a .nodes .now) in
@@ -59,7 +59,7 @@ same-length : tie.Need-same-length
 same-length c = c .before .before .cycles-verdict .kept .1 .1 .1 .0
 
 returns-4 : tie.Need-returns-4
-returns-4 c = 
+returns-4 c =
     let a = c .before .before .before .before .before .before .before .before .before .before .before .before .before .before .args in
     let N = netIn (a .file .now) (a .tables .now) (a .nodes .now) in
     let z = size-in (a .file .now) (a .tables .now) (a .nodes .now) in

@@ -18,7 +18,7 @@ enum-known-t : tie.Need-enum-known-t
 enum-known-t c = search needs
 
 slice-reshare-prefix-net-verdict : tie.Need-slice-reshare-prefix-net-verdict
-slice-reshare-prefix-net-verdict c = 
+slice-reshare-prefix-net-verdict c =
     let s = c .before .before .before .before .before .before .before .before .before .before .before .before .before .before .args .file .now in
     let e = c .before .before .before .before .before .before .before .scan-fields .ensures .0 in
     let h = c .before .before .before .before .before .before .before .scan-fields .ensures .1 in
@@ -26,7 +26,7 @@ slice-reshare-prefix-net-verdict c =
     omega (arith, fields-room s e _ _ h q)
 
 slice-aggregate-net-verdict : tie.Need-slice-aggregate-net-verdict
-slice-aggregate-net-verdict c = 
+slice-aggregate-net-verdict c =
     let s = c .before .before .before .before .before .before .before .before .before .before .before .before .before .before .before .args .file .now in
     let e = c .before .before .before .before .before .before .before .before .scan-fields .ensures .0 in
     let h = c .before .before .before .before .before .before .before .before .scan-fields .ensures .1 in
@@ -34,7 +34,7 @@ slice-aggregate-net-verdict c =
     sym (length-take-le _ _ (fields-room s e _ _ h q .0))
 
 slice-reshare-prefix-net-verdict-2 : tie.Need-slice-reshare-prefix-net-verdict-2
-slice-reshare-prefix-net-verdict-2 c = 
+slice-reshare-prefix-net-verdict-2 c =
     let s = c .before .before .before .before .before .before .before .before .before .before .before .before .before .before .before .args .file .now in
     let e = c .before .before .before .before .before .before .before .before .scan-fields .ensures .0 in
     let h = c .before .before .before .before .before .before .before .before .scan-fields .ensures .1 in
@@ -42,7 +42,7 @@ slice-reshare-prefix-net-verdict-2 c =
     omega (arith, fields-room s e _ _ h q)
 
 slice-aggregate-net-verdict-2 : tie.Need-slice-aggregate-net-verdict-2
-slice-aggregate-net-verdict-2 c = 
+slice-aggregate-net-verdict-2 c =
     let s = c .before .before .before .before .before .before .before .before .before .before .before .before .before .before .before .before .args .file .now in
     let e = c .before .before .before .before .before .before .before .before .before .scan-fields .ensures .0 in
     let h = c .before .before .before .before .before .before .before .before .before .scan-fields .ensures .1 in
@@ -50,7 +50,7 @@ slice-aggregate-net-verdict-2 c =
     sym (length-take-le _ _ (fields-room s e _ _ h q .1))
 
 net-verdict-requires : tie.Need-net-verdict-requires
-net-verdict-requires c κs = 
+net-verdict-requires c κs =
     let s = c .before .before .before .before .before .before .before .before .before .before .before .before .before .before .before .before .before .args .file .now in
     let e = c .before .before .before .before .before .before .before .before .before .before .scan-fields .ensures .0 in
     let h = c .before .before .before .before .before .before .before .before .before .before .scan-fields .ensures .1 in
@@ -70,7 +70,7 @@ same-length-2 : tie.Need-same-length-2
 same-length-2 c = c .before .before .before .before .before .before .before .scan-fields .kept .1 .1 .0
 
 returns : tie.Need-returns
-returns c = 
+returns c =
     let s = c .before .before .before .before .before .before .before .before .before .before .before .before .before .before .args .file .now in
     let e = c .before .before .before .before .before .before .before .scan-fields .ensures .0 in
     turned-away (scan-refused s e (c .before .number .given .1))
@@ -85,7 +85,7 @@ same-length-5 : tie.Need-same-length-5
 same-length-5 c = c .before .before .before .before .before .net-verdict .kept .1 .1 .1 .0
 
 returns-2 : tie.Need-returns-2
-returns-2 c = 
+returns-2 c =
     let s = c .before .before .before .before .before .before .before .before .before .before .before .before .before .before .before .before .before .before .before .before .before .before .before .args .file .now in
     let e = c .before .before .before .before .before .before .before .before .before .before .before .before .before .before .before .before .scan-fields .ensures .0 in
     let h = c .before .before .before .before .before .before .before .before .before .before .before .before .before .before .before .before .scan-fields .ensures .1 in
@@ -102,7 +102,7 @@ same-length-8 : tie.Need-same-length-8
 same-length-8 c = c .before .before .before .before .net-verdict .kept .1 .1 .1 .0
 
 returns-3 : tie.Need-returns-3
-returns-3 c = 
+returns-3 c =
     let s = c .before .before .before .before .before .before .before .before .before .before .before .before .before .before .before .before .before .before .before .before .before .before .args .file .now in
     let e = c .before .before .before .before .before .before .before .before .before .before .before .before .before .before .before .scan-fields .ensures .0 in
     let h = c .before .before .before .before .before .before .before .before .before .before .before .before .before .before .before .scan-fields .ensures .1 in

@@ -1,61 +1,69 @@
--- The part handed to `node_of` is the field's content.
-use mathlib.Core.Path.{ap, _∙_}
-use Prim.Native.Nat.{ℕ, _+_}
-use lib.ListN.{take, drop}
-use Rattle.netlist.specs.File.{nodeIn}
-use Rattle.netlist.specs.NodeField.{nodeRead}
-use Rattle.netlist.specs.declared.NodeRead.{NodeRead}
+-- The node, put together from its bytes in the file.
+use mathlib.Core.Path.{refl, sym, ap, ap₂, _∙_}
+use Prim.Native.Nat.{ℕ, _+_, _*_}
+use native.Mathlib.Omega.{arith}
 use borrow.Author.Needs.{needs}
-use native.Mathlib.Nat.{add-sub-cancel-left}
+use Rattle.netlist.specs.Net.{operands}
+use Rattle.netlist.specs.NodeField.{firstSource, sourcesFrom}
+use Rattle.reader.proofs.InFile as file
 use Rattle.reader.proofs.node_at.Statement.{statement}
 use Rattle.reader.proofs.node_at.Tie as tie
+
+element-at-requires : tie.Need-element-at-requires
+element-at-requires c κs = search needs
 
 add-from : tie.Need-add-from
 add-from c = search needs
 
-add-word-at : tie.Need-add-word-at
-add-word-at c = search needs
+first-source-requires : tie.Need-first-source-requires
+first-source-requires c κs = search needs
 
-word-at-requires : tie.Need-word-at-requires
-word-at-requires c κs = search needs
+add-from-2 : tie.Need-add-from-2
+add-from-2 c =
+    let s = c .before .before .before .args .file .now in
+    let at = c .before .before .before .args .at in
+    let p = c .before .before .before .pre in
+    let x = c .before .element-at .ensures ∙ sym (file.element-in s at p) in
+    omega (arith, p .inside, file.sources-room s at p, c .first-source .ensures ∙ ap firstSource x)
 
-cast-to : tie.Need-cast-to
-cast-to c = search needs
+source-count-requires : tie.Need-source-count-requires
+source-count-requires c κs = search needs
 
-add-to : tie.Need-add-to
-add-to c = search needs
+sources-from-requires : tie.Need-sources-from-requires
+sources-from-requires c κs =
+    let s = c .before .before .before .before .args .file .now in
+    let at = c .before .before .before .before .args .at in
+    let p = c .before .before .before .before .pre in
+    let x = c .before .before .element-at .ensures ∙ sym (file.element-in s at p) in
+    omega (arith, p .inside, file.sources-room s at p, ap₂ (λ (k m : ℕ). k + 2 * m) (c .before .first-source .ensures ∙ ap firstSource x) (c .source-count .ensures ∙ ap operands x))
 
-sub-node-of : tie.Need-sub-node-of
-sub-node-of c = search needs
+add-t7 : tie.Need-add-t7
+add-t7 c = search needs
 
-part-node-of-start : tie.Need-part-node-of-start
-part-node-of-start c = search needs
-
-part-node-of-end : tie.Need-part-node-of-end
-part-node-of-end c = search needs
-
-node-of-requires : tie.Need-node-of-requires
-node-of-requires c κs = search needs
+shared-slice-read-t10 : tie.Need-shared-slice-read-t10
+shared-slice-read-t10 c =
+    let s = c .before .before .before .before .before .before .args .file .now in
+    let at = c .before .before .before .before .before .before .args .at in
+    let p = c .before .before .before .before .before .before .pre in
+    omega (arith, p .inside, file.long s at p)
 
 returns : tie.Need-returns
-unfolding nodeIn
 returns c =
-    let s = c .before .before .before .before .before .args .file .now in
-    let at = c .before .before .before .before .before .args .at in
-    let e = c .before .node-of .ensures ∙ ap (λ (k : ℕ). nodeRead (take k (drop (at + 3) s))) (add-sub-cancel-left (at + 3) (c .before .before .before .word-at .result) ∙ c .before .before .before .word-at .ensures) in
-    ap (λ (r : NodeRead). r .node) e
+    let s = c .before .before .before .before .before .before .args .file .now in
+    let at = c .before .before .before .before .before .before .args .at in
+    let p = c .before .before .before .before .before .before .pre in
+    file.node-in s at p _ _ _ (c .before .before .before .before .element-at .ensures) refl (c .before .sources-from .ensures ∙ ap₂ (λ (k m : ℕ). sourcesFrom s (at + 3 + k) m) (c .before .before .before .first-source .ensures) (c .before .before .source-count .ensures))
 
 pub node-at-spec : {M : Type 1} → statement M
 node-at-spec =
     tie.close
     (tie.spec
+    element-at-requires
     add-from
-    add-word-at
-    word-at-requires
-    cast-to
-    add-to
-    sub-node-of
-    part-node-of-start
-    part-node-of-end
-    node-of-requires
+    first-source-requires
+    add-from-2
+    source-count-requires
+    sources-from-requires
+    add-t7
+    shared-slice-read-t10
     returns)

@@ -7,7 +7,6 @@ use Rattle.netlist.specs.Scan.{nodeStep}
 use borrow.Author.Needs.{needs}
 use Rattle.netlist.specs.NodeField.{nodeRead}
 use native.Mathlib.Nat.{add-sub-cancel-left}
-use Rattle.netlist.specs.declared.NodeRead.{NodeRead}
 use Rattle.netlist.specs.declared.Step.the-variants.{NodeField}
 use Rattle.reader.proofs.node_step.Statement.{statement}
 use Rattle.reader.proofs.node_step.Tie as tie
@@ -27,39 +26,39 @@ cast-to c = search needs
 add-to : tie.Need-add-to
 add-to c = search needs
 
-sub-node-of : tie.Need-sub-node-of
-sub-node-of c = search needs
+sub-content-good : tie.Need-sub-content-good
+sub-content-good c = search needs
 
-part-node-of-start : tie.Need-part-node-of-start
-part-node-of-start c = search needs
+part-content-good-start : tie.Need-part-content-good-start
+part-content-good-start c = search needs
 
-part-node-of-end : tie.Need-part-node-of-end
-part-node-of-end c = search needs
+part-content-good-end : tie.Need-part-content-good-end
+part-content-good-end c = search needs
 
-node-of-requires : tie.Need-node-of-requires
-node-of-requires c κs = search needs
+content-good-requires : tie.Need-content-good-requires
+content-good-requires c κs = search needs
+
+cast-t16 : tie.Need-cast-t16
+cast-t16 c = search needs
 
 cast-t17 : tie.Need-cast-t17
 cast-t17 c = search needs
-
-cast-t18 : tie.Need-cast-t18
-cast-t18 c = search needs
 
 returns : tie.Need-returns
 unfolding nodeStep
 returns c =
     let s = c .before .before .before .before .before .before .args .file .now in
     let at = c .before .before .before .before .before .before .args .at in
-    let e = c .before .node-of .ensures ∙ ap (λ (k : ℕ). nodeRead (take k (drop (at + 3) s))) (add-sub-cancel-left (at + 3) (c .before .before .before .word-at .result) ∙ c .before .before .before .word-at .ensures) in
-    on-lt _ _ _ _ (c .before .before .before .before .if1 .taken) (on-true _ _ _ (sym (ap (λ (r : NodeRead). r .good) e) ∙ c .if2 .taken) (ap (λ (k : ℕ). NodeField (at + 3 + k)) (c .before .before .before .word-at .ensures)))
+    let e = c .before .content-good .ensures ∙ ap (λ (k : ℕ). nodeRead (take k (drop (at + 3) s)) .good) (add-sub-cancel-left (at + 3) (c .before .before .before .word-at .result) ∙ c .before .before .before .word-at .ensures) in
+    on-lt _ _ _ _ (c .before .before .before .before .if1 .taken) (on-true _ _ _ (sym e ∙ c .if2 .taken) (ap (λ (k : ℕ). NodeField (at + 3 + k)) (c .before .before .before .word-at .ensures)))
 
 returns-2 : tie.Need-returns-2
 unfolding nodeStep
 returns-2 c =
     let s = c .before .before .before .before .before .before .args .file .now in
     let at = c .before .before .before .before .before .before .args .at in
-    let e = c .before .node-of .ensures ∙ ap (λ (k : ℕ). nodeRead (take k (drop (at + 3) s))) (add-sub-cancel-left (at + 3) (c .before .before .before .word-at .result) ∙ c .before .before .before .word-at .ensures) in
-    on-lt _ _ _ _ (c .before .before .before .before .if1 .taken) (on-false _ _ _ (sym (ap (λ (r : NodeRead). r .good) e) ∙ c .if2 .left) refl)
+    let e = c .before .content-good .ensures ∙ ap (λ (k : ℕ). nodeRead (take k (drop (at + 3) s)) .good) (add-sub-cancel-left (at + 3) (c .before .before .before .word-at .result) ∙ c .before .before .before .word-at .ensures) in
+    on-lt _ _ _ _ (c .before .before .before .before .if1 .taken) (on-false _ _ _ (sym e ∙ c .if2 .left) refl)
 
 returns-3 : tie.Need-returns-3
 unfolding nodeStep
@@ -74,12 +73,12 @@ node-step-spec =
     word-at-requires
     cast-to
     add-to
-    sub-node-of
-    part-node-of-start
-    part-node-of-end
-    node-of-requires
+    sub-content-good
+    part-content-good-start
+    part-content-good-end
+    content-good-requires
+    cast-t16
     cast-t17
-    cast-t18
     returns
     returns-2
     returns-3)

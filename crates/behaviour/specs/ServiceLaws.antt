@@ -1,0 +1,85 @@
+-- The run on bytes is the run on words: what one run leaves, and what a list of runs shows. Assumes nothing.
+use mathlib.Core.Path.{_≡_, refl, ap, ap₂, _∙_}
+use mathlib.Core.Logic.{⊎-elim}
+use mathlib.Core.Bool.{Bool, true, false, cond}
+use mathlib.Core.List.{List, [], _∷_, map}
+use Prim.Native.Nat.{ℕ}
+use lib.ListN.{length}
+use Rattle.lists.specs.BelowLaws.{true-or-false}
+use Rattle.netlist.specs.Net.{Net}
+use Rattle.netlist.specs.VerdictLaws.{fine-reader}
+use Rattle.netlist.specs.Checks.{WellFormed}
+use Rattle.netlist.specs.File.{Decoded, good, decode}
+use Rattle.netlist.specs.declared.Answer.the-variants.{Accepted, Refused}
+use Rattle.netlist.specs.declared.Verdict.{Verdict}
+use Rattle.behaviour.specs.Run.{runOutputs, runState}
+use Rattle.behaviour.specs.Runs as runs
+use Rattle.behaviour.specs.Runs.{stateWidths, fitting, takes, refusal, answer, after}
+use Rattle.behaviour.specs.Service.{bytesOf, wordsIn, resetNet, resetAfter, resetDecoded, resetFile, Ran, runNet, runAfter, runDecoded, runFile, Entry, Shown, runsFile}
+use Rattle.behaviour.specs.WordBytes.{words-of-bytes, fitting-bytes}
+use Rattle.behaviour.specs.Lending.{takesEntry, lent, takes-lent, words-lent}
+
+-- ---- a file that the reader passes, and its netlist
+
+module _ (s : List ℕ) (N : Net) (wf : WellFormed N) (reads : decode s ≡ good N) where
+  pub reset-file : (st : List ℕ) → resetFile s st ≡ resetNet N st
+  unfolding resetFile
+  reset-file st = ap (λ (d : Decoded). resetDecoded d st) reads ∙ ap (λ (v : Verdict). resetAfter v N st) (fine-reader N wf)
+
+  pub run-file : (st ins outs : List ℕ) → runFile s st ins outs ≡ runNet N st ins outs
+  unfolding runFile
+  run-file st ins outs = ap (λ (d : Decoded). runDecoded d st ins outs) reads ∙ ap (λ (v : Verdict). runAfter v N st ins outs) (fine-reader N wf)
+
+-- ---- one run
+
+-- what the answer on words shows in bytes, and with the next state
+abbrev pub shownAs : Entry → runs.Answer → Shown
+shownAs e (runs.Gave ws) = record { answer = Accepted (length (e .outputs)); outputs = bytesOf ws }
+shownAs e (runs.Refused k room) = record { answer = Refused k 65535; outputs = e .outputs }
+
+abbrev pub ranAs : Shown → List ℕ → Ran
+ranAs x state = record { answer = x .answer; state = bytesOf state; outputs = x .outputs }
+
+module _ (N : Net) (wf : WellFormed N) where
+  -- an entry that is taken, over a state that fits or does not; and an entry that is not
+  run-taken : (state : List ℕ) (e : Entry) → takes N (lent e) ≡ true → (b : Bool)
+      → cond b (record { answer = Accepted (length (e .outputs)); state = bytesOf (runState N state (wordsIn (e .inputs))); outputs = bytesOf (runOutputs N state (wordsIn (e .inputs))) })
+      (record { answer = Refused 16 65535; state = bytesOf state; outputs = e .outputs })
+      ≡ ranAs (shownAs e (answer (cond b 0 16) N state (lent e))) (after (cond b 0 16) N state (lent e))
+  unfolding answer after
+  run-taken state e t true = rw (words-lent N wf e t)
+  run-taken state e t false = refl
+
+  -- THE LAW
+  pub run-words : (state : List ℕ) (e : Entry)
+      → runNet N (bytesOf state) (e .inputs) (e .outputs) ≡ ranAs (shownAs e (answer (refusal N state (lent e)) N state (lent e))) (after (refusal N state (lent e)) N state (lent e))
+  unfolding runNet refusal takesEntry answer after
+  run-words state e =
+      rw (← (takes-lent N wf e)) (rw (fitting-bytes (stateWidths N) state) (rw (words-of-bytes state)
+      (⊎-elim (λ (t : takes N (lent e) ≡ true). rw t (run-taken state e t (fitting (stateWidths N) state))) (λ t. rw t refused) (true-or-false (takes N (lent e))))))
+    where
+      refused : record { answer = Refused 15 65535; state = bytesOf state; outputs = e .outputs } ≡ ranAs (shownAs e (answer 15 N state (lent e))) (after 15 N state (lent e))
+      refused = refl
+
+-- ---- a list of runs
+
+abbrev pub shownAll : List Entry → List runs.Answer → List Shown
+shownAll [] l = []
+shownAll (e ∷ es) [] = []
+shownAll (e ∷ es) (a ∷ l) = shownAs e a ∷ shownAll es l
+
+module _ (s : List ℕ) (N : Net) (wf : WellFormed N) (reads : decode s ≡ good N) where
+  abbrev shown : Ran → Shown
+  shown r = record { answer = r .answer; outputs = r .outputs }
+
+  ran : (state : List ℕ) (e : Entry)
+      → runFile s (bytesOf state) (e .inputs) (e .outputs) ≡ ranAs (shownAs e (answer (refusal N state (lent e)) N state (lent e))) (after (refusal N state (lent e)) N state (lent e))
+  ran state e = run-file s N wf reads (bytesOf state) (e .inputs) (e .outputs) ∙ run-words N wf state e
+
+  -- THE THEOREM: what the file's runs show is decided by the runs of its netlist on words
+  pub runs-words : (state : List ℕ) (es : List Entry) → runsFile s (bytesOf state) es ≡ shownAll es (runs.runs N state (map lent es))
+  unfolding runsFile runs.runs
+  runs-words state [] = refl
+  runs-words state (e ∷ es) =
+      ap₂ _∷_ (ap shown (ran state e))
+      (ap (λ (r : Ran). runsFile s (r .state) es) (ran state e) ∙ runs-words (after (refusal N state (lent e)) N state (lent e)) es)

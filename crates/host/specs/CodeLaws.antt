@@ -1,0 +1,34 @@
+-- An accepted length is below 65,536, so a C host tells the two cases apart. Assumes nothing.
+use mathlib.Core.Path.{_≡_, sym, _∙_, subst}
+use mathlib.Core.List.{List}
+use Prim.Native.Nat.{ℕ, _≤_}
+use native.Mathlib.Omega.{arith}
+use lib.ListN.{length}
+use Rattle.netlist.specs.Scan.{Scan, refused, found, scan}
+use Rattle.netlist.specs.ScanLaws.{scan-found}
+use Rattle.netlist.specs.Verdict.{readerVerdict}
+use Rattle.netlist.specs.File.{netIn, decoded, judged, decode, fileVerdict, answer, checkAnswer}
+use Rattle.netlist.specs.declared.Answer.{Answer}
+use Rattle.netlist.specs.declared.Answer.the-variants.{Accepted, Refused}
+use Rattle.netlist.specs.declared.Verdict.{Verdict}
+use Rattle.netlist.specs.declared.Verdict.the-variants.{Fine, Refuses}
+
+-- the answer's length is at most so much
+pub data Within (b : ℕ) : Answer → Type 0 where
+  accepted-within : {n : ℕ} → n ≤ b → Within b (Accepted n)
+  refused-within : {k p : ℕ} → Within b (Refused k p)
+
+pub within : {b n : ℕ} → Within b (Accepted n) → n ≤ b
+within (accepted-within h) = h
+
+of-verdict : (v : Verdict) (n b : ℕ) → n ≤ b → Within b (answer v n)
+of-verdict Fine n b h = accepted-within h
+of-verdict (Refuses k p) n b h = refused-within
+
+of-scan : (s : List ℕ) (w : Scan) → scan s ≡ w → Within 65535 (answer (judged (decoded s w)) (length s))
+of-scan s (refused k p) e = refused-within
+of-scan s (found ts ns) e = of-verdict (readerVerdict (netIn s ts ns)) (length s) 65535 (let h = scan-found s ts ns e .short in omega arith)
+
+pub check-within : (s : List ℕ) → Within 65535 (checkAnswer s)
+unfolding checkAnswer fileVerdict decode
+check-within s = of-scan s (scan s) (λ i. scan s)

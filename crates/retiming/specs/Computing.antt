@@ -1,0 +1,22 @@
+-- One name for all that computes: a proof by computation over files unfolds `computing`. Assumes nothing.
+use Prim.Native.Nat.{ℕ}
+use Rattle.words.specs.Gates.{operate}
+use Rattle.netlist.specs.Net.{spelled, contentsIn, contentsAt, portOf, outputsOf}
+use Rattle.netlist.specs.NodeField.{nodeContent}
+use Rattle.netlist.specs.TableField.{tableContent}
+use Rattle.netlist.specs.File.{encode}
+use Rattle.netlist.specs.Examples.{checking}
+use Rattle.behaviour.specs.Run.{holderOf, contentsNow, again, round, wordsAfter, words, resetState, nextState, runOutputs, runState, stateAt, runWord, zeroWord}
+use Rattle.behaviour.specs.Runs.{inputWidths, outputWidths, stateWidths, fitting}
+use Rattle.behaviour.specs.Service.{resetNet, resetFile, runNet, runFile, runsFile}
+use Rattle.behaviour.specs.Entries.{stateBytes}
+use Rattle.retiming.specs.Leads.{asyncHere, registerHere, asked, relax, leadsAfter, leads, lead, closedDebt, owingPort}
+use Rattle.retiming.specs.Rewrite.{rootIn, passedIn, root, passed, ownHere, memoryAt, wordFrom, stays, oldOn, registersOn, countOn, newTables, newTable, resetWord, copyOn, copiesAt, copiesOf, copies}
+use Rattle.retiming.specs.Rewrite.{wiresOf, wiresAll, wirePlaces, wireNumber, entriesOf, regsOn, entryPlaces, regPlaces, places, numberOf, along, newSource, nodeOf, rewrittenWith, timingBy, timing, rewritten}
+use Rattle.retiming.specs.Debt.{grown, debtStages, debtVerdict}
+use Rattle.retiming.specs.FileRewrite.{rewriterVerdict, rewrittenFile, written, rewriteFile}
+
+-- reading and checking, writing, leads, rewriting, runs
+unfoldable pub computing : ℕ
+unfolding checking encode nodeContent tableContent operate spelled contentsIn contentsAt portOf outputsOf asyncHere registerHere asked relax leadsAfter leads lead closedDebt owingPort grown debtStages debtVerdict rootIn passedIn root passed ownHere memoryAt wordFrom stays oldOn registersOn countOn newTables newTable resetWord copyOn copiesAt copiesOf copies wiresOf wiresAll wirePlaces wireNumber entriesOf regsOn entryPlaces regPlaces places numberOf along newSource nodeOf rewrittenWith timingBy timing rewritten rewriterVerdict rewrittenFile written rewriteFile holderOf contentsNow again round wordsAfter words resetState nextState runOutputs runState stateAt runWord zeroWord inputWidths outputWidths stateWidths fitting resetNet resetFile runNet runFile runsFile stateBytes
+computing = 0
