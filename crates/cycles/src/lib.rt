@@ -2,14 +2,10 @@
 use index::node;
 use index::wide;
 use order::Steps;
-use order::Walk;
 use order::counted;
 use order::flag_at;
-use order::next_unmet;
-use order::number_at;
-use order::order_nodes;
+use order::order_with_hint;
 use order::put_flag;
-use order::put_number;
 ghost use mathlib.Core.Path.{_≡_};
 ghost use mathlib.Core.Bool.{_||_};
 ghost use Prim.Native.Nat.{_+_, _<_, _≤_};
@@ -117,111 +113,7 @@ fn spread(
     k
 }
 
-// ---- a hint for the rounds: the order in which a depth-first walk over all nodes leaves them, sources before readers. Nobody trusts it.
-
-// One step of the walk: down to a source not met yet, or back, noting the node.
-fn note_step(
-    file: &[u8],
-    tables: &[u16],
-    nodes: &[u16],
-    steps: Steps,
-    stack: &mut [u16],
-    met: &mut [u8],
-    hint: &mut [u16],
-    at: Walk,
-) -> Walk
-    requires { ⌜ Found (now file) (now tables) (now nodes) × (at .depth ≤ 65535) × (at .placed ≤ 65535) ⌝ }
-    ensures { λ r. ⌜ (r .depth ≤ at .depth + 1) × (r .placed ≤ at .placed + 1) ⌝ }
-{
-    let depth = at.depth;
-    let placed = at.placed;
-    if depth == 0 {
-        return Walk { depth, placed };
-    }
-    let v = wide(number_at(stack, depth - 1));
-    if nodes.len() <= v {
-        return Walk {
-            depth: depth - 1,
-            placed,
-        };
-    }
-    let u = next_unmet(file, tables, nodes, steps, v, met);
-    if u < nodes.len() {
-        put_flag(met, u, 1);
-        put_number(stack, depth, u as u16);
-        return Walk {
-            depth: depth + 1,
-            placed,
-        };
-    }
-    put_number(hint, placed, v as u16);
-    Walk {
-        depth: depth - 1,
-        placed: placed + 1,
-    }
-}
-
-// Notes a node, and first what it reads, as far as a walk of so many steps gets; gives how many are noted.
-fn note_from(
-    file: &[u8],
-    tables: &[u16],
-    nodes: &[u16],
-    steps: Steps,
-    root: usize,
-    stack: &mut [u16],
-    met: &mut [u8],
-    hint: &mut [u16],
-    start: usize,
-) -> usize
-    requires { ⌜ Found (now file) (now tables) (now nodes) × (root < length (now nodes)) × (start ≤ 16384) ⌝ }
-    ensures { λ r. ⌜ r ≤ 65535 ⌝ }
-{
-    if 0 < flag_at(met, root) {
-        return start;
-    }
-    put_flag(met, root, 1);
-    put_number(stack, 0, root as u16);
-    let mut at = Walk {
-        depth: 1,
-        placed: start,
-    };
-    let mut left: usize = 2048;
-    while 0 < left {
-        if at.depth == 0 {
-            return at.placed;
-        }
-        at = note_step(file, tables, nodes, steps, stack, met, hint, at);
-        left = left - 1;
-    }
-    at.placed
-}
-
-fn note_all(file: &[u8], tables: &[u16], nodes: &[u16], steps: Steps, hint: &mut [u16])
-    requires { ⌜ Found (now file) (now tables) (now nodes) ⌝ }
-    ensures { λ _. ⌜ length (now (hint .exit)) ≡ length (now (hint .entry)) ⌝ }
-{
-    let mut stack = [0u16; 1024];
-    let mut met = [0u8; 1024];
-    let mut noted: usize = 0;
-    let mut root: usize = 0;
-    while root < nodes.len() {
-        // No node is noted twice, so the cut never bites.
-        noted = note_from(
-            file,
-            tables,
-            nodes,
-            steps,
-            root,
-            &mut stack,
-            &mut met,
-            hint,
-            noted % 16384,
-        );
-        root = root + 1;
-    }
-}
-
-// One round from the start s over the nodes of the hint, in its order.
+// One round from the start s over the nodes of a hint, in its order. The hint has sources before readers, so that few rounds are enough; nobody trusts it.
 fn spread_by(
     file: &[u8],
     tables: &[u16],
@@ -256,20 +148,18 @@ fn clear(marks: &mut [u8])
 }
 
 // The search: from each node in turn rounds spread its mark until it comes back, which ends the search, or a round over all nodes changes nothing.
-fn lowest_on_cycle(file: &[u8], tables: &[u16], nodes: &[u16], steps: Steps) -> usize
+fn lowest_on_cycle(file: &[u8], tables: &[u16], nodes: &[u16], steps: Steps, hint: &[u16]) -> usize
     requires { ⌜ Found (now file) (now tables) (now nodes) × Sourced (netIn (now file) (now tables) (now nodes)) ⌝ }
     ensures { λ r. ⌜ r ≡ lowest (length (now (nodes .entry))) (reachesItself (classOf steps) (netIn (now (file .entry)) (now (tables .entry)) (now (nodes .entry)))) ⌝ }
 {
     let n = nodes.len();
     let mut marks = [0u8; 1024];
-    let mut hint = [0u16; 1024];
-    note_all(file, tables, nodes, steps, &mut hint);
     let mut s: usize = 0;
     'search: while s < n {
         clear(&mut marks);
         let mut marked: usize = 0;
         loop {
-            let near = spread_by(file, tables, nodes, steps, s, &hint, &mut marks, marked);
+            let near = spread_by(file, tables, nodes, steps, s, hint, &mut marks, marked);
             let more = spread(file, tables, nodes, steps, s, &mut marks, near);
             if 0 < flag_at(&marks, s) {
                 break 'search;
@@ -297,9 +187,10 @@ pub fn lowest_cycle(
         × (r ≡ length (now (nodes .entry)) → Complete (classOf steps) (netIn (now (file .entry)) (now (tables .entry)) (now (nodes .entry))) (now (order .exit))) ⌝ }
 {
     let mut flags = [0u8; 1024];
-    let placed = order_nodes(file, tables, nodes, steps, &mut flags, order);
+    let mut hint = [0u16; 1024];
+    let placed = order_with_hint(file, tables, nodes, steps, &mut flags, order, &mut hint);
     if placed == nodes.len() {
         return placed;
     }
-    lowest_on_cycle(file, tables, nodes, steps)
+    lowest_on_cycle(file, tables, nodes, steps, &hint)
 }

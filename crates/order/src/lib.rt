@@ -195,14 +195,15 @@ fn settle(
 
 // ---- the walk that proposes an order
 
-// How far a depth-first walk has come: how many nodes are on its stack, and how many are placed.
+// How far a depth-first walk has come: how many nodes are on its stack, how many are placed, and how many it has left.
 pub struct Walk {
     pub depth: usize,
     pub placed: usize,
+    pub noted: usize,
 }
 
 // The first source of v that counts and was not met yet, or the number of nodes.
-pub fn next_unmet(
+fn next_unmet(
     file: &[u8],
     tables: &[u16],
     nodes: &[u16],
@@ -233,7 +234,7 @@ pub fn next_unmet(
     nodes.len()
 }
 
-// One step of the walk: down to a source not met yet, or back, placing the node.
+// One step of the walk: down to a source not met yet, or back, placing the node. The hint notes the nodes as the walk leaves them, placed or not.
 fn walk_step(
     file: &[u8],
     tables: &[u16],
@@ -243,22 +244,29 @@ fn walk_step(
     order: &mut [u16],
     stack: &mut [u16],
     met: &mut [u8],
+    hint: &mut [u16],
     at: Walk,
 ) -> Walk
-    requires { ⌜ Found (now file) (now tables) (now nodes) × Sourced (netIn (now file) (now tables) (now nodes)) × (at .depth ≤ 4096)
+    requires { ⌜ Found (now file) (now tables) (now nodes) × Sourced (netIn (now file) (now tables) (now nodes)) × (at .depth ≤ 65535) × (at .noted ≤ 65535)
         × Placed (classOf steps) (netIn (now file) (now tables) (now nodes)) (now flags) (now order) (at .placed) ⌝ }
-    ensures { λ r. ⌜ (r .depth ≤ at .depth + 1) × Placed (classOf steps) (netIn (now (file .entry)) (now (tables .entry)) (now (nodes .entry))) (now (flags .exit)) (now (order .exit)) (r .placed) ⌝ }
+    ensures { λ r. ⌜ (r .depth ≤ at .depth + 1) × (r .noted ≤ at .noted + 1) × Placed (classOf steps) (netIn (now (file .entry)) (now (tables .entry)) (now (nodes .entry))) (now (flags .exit)) (now (order .exit)) (r .placed) ⌝ }
 {
     let depth = at.depth;
     let placed = at.placed;
+    let noted = at.noted;
     if depth == 0 {
-        return Walk { depth, placed };
+        return Walk {
+            depth,
+            placed,
+            noted,
+        };
     }
     let v = wide(number_at(stack, depth - 1));
     if nodes.len() <= v {
         return Walk {
             depth: depth - 1,
             placed,
+            noted,
         };
     }
     let u = next_unmet(file, tables, nodes, steps, v, met);
@@ -268,16 +276,19 @@ fn walk_step(
         return Walk {
             depth: depth + 1,
             placed,
+            noted,
         };
     }
+    put_number(hint, noted, v as u16);
     let more = place(file, tables, nodes, steps, v, flags, order, placed);
     Walk {
         depth: depth - 1,
         placed: more,
+        noted: noted + 1,
     }
 }
 
-// Places a node, and first what it reads, as far as a walk of so many steps gets.
+// Places a node not met yet, and first what it reads, as far as a walk of so many steps gets.
 fn walk_from(
     file: &[u8],
     tables: &[u16],
@@ -288,28 +299,54 @@ fn walk_from(
     order: &mut [u16],
     stack: &mut [u16],
     met: &mut [u8],
-    start: usize,
-) -> usize
-    requires { ⌜ Found (now file) (now tables) (now nodes) × Sourced (netIn (now file) (now tables) (now nodes)) × (root < length (now nodes))
-        × Placed (classOf steps) (netIn (now file) (now tables) (now nodes)) (now flags) (now order) start ⌝ }
-    ensures { λ r. ⌜ Placed (classOf steps) (netIn (now (file .entry)) (now (tables .entry)) (now (nodes .entry))) (now (flags .exit)) (now (order .exit)) r ⌝ }
+    hint: &mut [u16],
+    start: Walk,
+) -> Walk
+    requires { ⌜ Found (now file) (now tables) (now nodes) × Sourced (netIn (now file) (now tables) (now nodes)) × (root < length (now nodes)) × (start .noted ≤ 16384)
+        × Placed (classOf steps) (netIn (now file) (now tables) (now nodes)) (now flags) (now order) (start .placed) ⌝ }
+    ensures { λ r. ⌜ (r .noted ≤ 32768) × Placed (classOf steps) (netIn (now (file .entry)) (now (tables .entry)) (now (nodes .entry))) (now (flags .exit)) (now (order .exit)) (r .placed) ⌝ }
 {
-    let placed = place(file, tables, nodes, steps, root, flags, order, start);
-    if 0 < flag_at(flags, root) {
-        return placed;
+    if 0 < flag_at(met, root) {
+        return start;
     }
     put_flag(met, root, 1);
+    let before = start.placed;
+    let noted = start.noted;
+    let placed = place(file, tables, nodes, steps, root, flags, order, before);
+    if 0 < flag_at(flags, root) {
+        put_number(hint, noted, root as u16);
+        return Walk {
+            depth: 0,
+            placed,
+            noted: noted + 1,
+        };
+    }
     put_number(stack, 0, root as u16);
-    let mut at = Walk { depth: 1, placed };
+    let mut at = Walk {
+        depth: 1,
+        placed,
+        noted,
+    };
     let mut left: usize = 2048;
     while 0 < left {
         if at.depth == 0 {
-            return at.placed;
+            return at;
         }
-        at = walk_step(file, tables, nodes, steps, flags, order, stack, met, at);
+        at = walk_step(
+            file,
+            tables,
+            nodes,
+            steps,
+            flags,
+            order,
+            stack,
+            met,
+            hint,
+            at,
+        );
         left = left - 1;
     }
-    at.placed
+    at
 }
 
 // Walks from every node in file order.
@@ -320,6 +357,7 @@ fn walk_all(
     steps: Steps,
     flags: &mut [u8],
     order: &mut [u16],
+    hint: &mut [u16],
 ) -> usize
     requires { ⌜ Found (now file) (now tables) (now nodes) × Sourced (netIn (now file) (now tables) (now nodes))
         × Placed (classOf steps) (netIn (now file) (now tables) (now nodes)) (now flags) (now order) 0 ⌝ }
@@ -328,9 +366,16 @@ fn walk_all(
     let mut stack = [0u16; 1024];
     let mut met = [0u8; 1024];
     let mut placed: usize = 0;
+    let mut noted: usize = 0;
     let mut root: usize = 0;
     while root < nodes.len() {
-        placed = walk_from(
+        // No node is noted twice, so the cut never bites.
+        let start = Walk {
+            depth: 0,
+            placed,
+            noted: noted % 16384,
+        };
+        let at = walk_from(
             file,
             tables,
             nodes,
@@ -340,14 +385,37 @@ fn walk_all(
             order,
             &mut stack,
             &mut met,
-            placed,
+            hint,
+            start,
         );
+        placed = at.placed;
+        noted = at.noted;
         root = root + 1;
     }
     placed
 }
 
-// Places all nodes that can be placed and gives their number. The flags are 0 at first.
+// Places all nodes that can be placed and gives their number. The flags are 0 at first. What the hint holds afterwards is not said: it is the order in which a
+// depth-first walk left the nodes, sources before readers, for whoever can use an order without trusting it.
+pub fn order_with_hint(
+    file: &[u8],
+    tables: &[u16],
+    nodes: &[u16],
+    steps: Steps,
+    flags: &mut [u8],
+    order: &mut [u16],
+    hint: &mut [u16],
+) -> usize
+    requires { ⌜ Found (now file) (now tables) (now nodes) × Sourced (netIn (now file) (now tables) (now nodes))
+        × Placed (classOf steps) (netIn (now file) (now tables) (now nodes)) (now flags) (now order) 0 ⌝ }
+    ensures { λ r. ⌜ Placed (classOf steps) (netIn (now (file .entry)) (now (tables .entry)) (now (nodes .entry))) (now (flags .exit)) (now (order .exit)) r
+        × Waiting (ready (classOf steps) (netIn (now (file .entry)) (now (tables .entry)) (now (nodes .entry)))) (now (flags .exit)) (length (now (nodes .entry))) ⌝ }
+{
+    let placed = walk_all(file, tables, nodes, steps, flags, order, hint);
+    settle(file, tables, nodes, steps, flags, order, placed)
+}
+
+// The same for whoever needs no hint.
 pub fn order_nodes(
     file: &[u8],
     tables: &[u16],
@@ -361,6 +429,6 @@ pub fn order_nodes(
     ensures { λ r. ⌜ Placed (classOf steps) (netIn (now (file .entry)) (now (tables .entry)) (now (nodes .entry))) (now (flags .exit)) (now (order .exit)) r
         × Waiting (ready (classOf steps) (netIn (now (file .entry)) (now (tables .entry)) (now (nodes .entry)))) (now (flags .exit)) (length (now (nodes .entry))) ⌝ }
 {
-    let placed = walk_all(file, tables, nodes, steps, flags, order);
-    settle(file, tables, nodes, steps, flags, order, placed)
+    let mut hint = [0u16; 1024];
+    order_with_hint(file, tables, nodes, steps, flags, order, &mut hint)
 }

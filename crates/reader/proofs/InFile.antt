@@ -16,9 +16,10 @@ use Rattle.netlist.specs.Net.{rom, operands, isOutput}
 use Rattle.netlist.specs.Field.{lengthAt, fieldEnd, content}
 use Rattle.netlist.specs.NodeField.{gateLength, plainOp, firstSource, sourcesFrom, nodeRead, nodeWith}
 use Rattle.netlist.specs.NodeLaws.{node-facts}
-use Rattle.netlist.specs.TableLaws.{content-length}
-use Rattle.netlist.specs.ScanLaws.{NodeAt}
-use Rattle.netlist.specs.File.{nodeIn}
+use Rattle.netlist.specs.TableField.{tableRead}
+use Rattle.netlist.specs.TableLaws.{table-facts, content-length}
+use Rattle.netlist.specs.ScanLaws.{TableAt, NodeAt}
+use Rattle.netlist.specs.File.{tableIn, nodeIn}
 use Rattle.netlist.specs.declared.Element.{Element}
 use Rattle.netlist.specs.declared.Element.the-variants.{Input, Output, Register, Async, Clocked, Gate}
 use Rattle.netlist.specs.declared.ElementRead.{ElementRead}
@@ -186,3 +187,17 @@ module _ (s : List ℕ) (at : ℕ) where
           where
             P : Element → Type 0
             P x = eqb (getD c 0 0) 1 ≡ isOutput x
+
+-- ---- a table field that passed check 4: its address bits and its width stand first
+
+module _ (s : List ℕ) (at : ℕ) (p : TableAt s at) where
+  pub table-long : 2 ≤ lengthAt s at
+  table-long = omega (arith, table-facts (content s at) (p .good) .full, content-length s at (p .inside))
+
+  pub bits-in : getD s (at + 3) 0 ≡ tableIn s at .bits
+  unfolding tableIn tableRead
+  bits-in = sym (byte-is s at 0 (at + 3) (omega arith) (let l = table-long in omega arith))
+
+  pub wide-in : getD s (at + 4) 0 ≡ tableIn s at .wide
+  unfolding tableIn tableRead
+  wide-in = sym (byte-is s at 1 (at + 4) (omega arith) table-long)

@@ -1,11 +1,9 @@
 -- Below the number of tables the offset is in the index; past it no table stands.
-use mathlib.Core.Path.{sym, ap, subst, _∙_}
-use Prim.Native.Nat.{ℕ}
-use Rattle.netlist.specs.Net.{Table}
-use Rattle.netlist.specs.File.{tableIn}
-use Rattle.netlist.specs.FileLaws.{table-in, table-out}
-use Rattle.netlist.specs.ScanLaws.{TableAt}
+use mathlib.Core.Path.{sym, subst}
 use borrow.Author.Needs.{needs}
+use Rattle.netlist.specs.Net.{Table}
+use Rattle.netlist.specs.ScanLaws.{TableAt}
+use Rattle.index.proofs.Tables.{of-table, of-none}
 use Rattle.index.proofs.address_bits.Statement.{statement}
 use Rattle.index.proofs.address_bits.Tie as tie
 
@@ -19,28 +17,13 @@ wide-requires : tie.Need-wide-requires
 wide-requires c κs = search needs
 
 table-bits-requires : tie.Need-table-bits-requires
-table-bits-requires c κs =
-    let a = c .before .before .before .before .before .before .args in
-    let s = a .file .now in
-    let ts = a .tables .now in
-    let ns = a .nodes .now in
-    subst (TableAt s) (sym (c .wide .ensures .0)) (c .before .before .before .before .before .before .pre .tables (a .k) (c .before .before .if1 .taken))
+table-bits-requires c κs = subst (TableAt _) (sym (c .wide .ensures .0)) (c .before .before .before .before .before .before .pre .tables _ (c .before .before .if1 .taken))
 
 returns : tie.Need-returns
-returns c =
-    let a = c .before .before .before .before .before .before .before .args in
-    let s = a .file .now in
-    let ts = a .tables .now in
-    let ns = a .nodes .now in
-    c .table-bits .ensures ∙ ap (λ (k : ℕ). tableIn s k .bits) (c .before .wide .ensures .0) ∙ sym (ap (λ (x : Table). x .bits) (table-in s ts ns (a .k) (c .before .before .before .if1 .taken)))
+returns c = of-table (λ (t : Table). t .bits) (c .before .before .before .before .before .before .before .args .file .now) (c .before .before .before .before .before .before .before .args .tables .now) (c .before .before .before .before .before .before .before .args .nodes .now) (c .before .before .before .before .before .before .before .args .k) (c .table-bits .ensures) (c .before .wide .ensures .0) (c .before .before .before .if1 .taken)
 
 returns-2 : tie.Need-returns-2
-returns-2 c =
-    let a = c .before .before .before .before .args in
-    let s = a .file .now in
-    let ts = a .tables .now in
-    let ns = a .nodes .now in
-    sym (ap (λ (x : Table). x .bits) (table-out s ts ns (a .k) (c .if1 .left)))
+returns-2 c = of-none (λ (t : Table). t .bits) (c .before .before .before .before .args .file .now) (c .before .before .before .before .args .tables .now) (c .before .before .before .before .args .nodes .now) (c .before .before .before .before .args .k) (c .if1 .left)
 
 pub address-bits-spec : {M : Type 1} → statement M
 address-bits-spec =

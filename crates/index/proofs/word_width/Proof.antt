@@ -1,11 +1,9 @@
 -- Below the number of tables the offset is in the index; past it no table stands.
-use mathlib.Core.Path.{sym, ap, subst, _∙_}
-use Prim.Native.Nat.{ℕ}
-use Rattle.netlist.specs.Net.{Table}
-use Rattle.netlist.specs.File.{tableIn}
-use Rattle.netlist.specs.FileLaws.{table-in, table-out}
-use Rattle.netlist.specs.ScanLaws.{TableAt}
+use mathlib.Core.Path.{sym, subst}
 use borrow.Author.Needs.{needs}
+use Rattle.netlist.specs.Net.{Table}
+use Rattle.netlist.specs.ScanLaws.{TableAt}
+use Rattle.index.proofs.Tables.{of-table, of-none}
 use Rattle.index.proofs.word_width.Statement.{statement}
 use Rattle.index.proofs.word_width.Tie as tie
 
@@ -19,28 +17,13 @@ wide-requires : tie.Need-wide-requires
 wide-requires c κs = search needs
 
 table-width-requires : tie.Need-table-width-requires
-table-width-requires c κs =
-    let a = c .before .before .before .before .before .before .args in
-    let s = a .file .now in
-    let ts = a .tables .now in
-    let ns = a .nodes .now in
-    subst (TableAt s) (sym (c .wide .ensures .0)) (c .before .before .before .before .before .before .pre .tables (a .k) (c .before .before .if1 .taken))
+table-width-requires c κs = subst (TableAt _) (sym (c .wide .ensures .0)) (c .before .before .before .before .before .before .pre .tables _ (c .before .before .if1 .taken))
 
 returns : tie.Need-returns
-returns c =
-    let a = c .before .before .before .before .before .before .before .args in
-    let s = a .file .now in
-    let ts = a .tables .now in
-    let ns = a .nodes .now in
-    c .table-width .ensures ∙ ap (λ (k : ℕ). tableIn s k .wide) (c .before .wide .ensures .0) ∙ sym (ap (λ (x : Table). x .wide) (table-in s ts ns (a .k) (c .before .before .before .if1 .taken)))
+returns c = of-table (λ (t : Table). t .wide) (c .before .before .before .before .before .before .before .args .file .now) (c .before .before .before .before .before .before .before .args .tables .now) (c .before .before .before .before .before .before .before .args .nodes .now) (c .before .before .before .before .before .before .before .args .k) (c .table-width .ensures) (c .before .wide .ensures .0) (c .before .before .before .if1 .taken)
 
 returns-2 : tie.Need-returns-2
-returns-2 c =
-    let a = c .before .before .before .before .args in
-    let s = a .file .now in
-    let ts = a .tables .now in
-    let ns = a .nodes .now in
-    sym (ap (λ (x : Table). x .wide) (table-out s ts ns (a .k) (c .if1 .left)))
+returns-2 c = of-none (λ (t : Table). t .wide) (c .before .before .before .before .args .file .now) (c .before .before .before .before .args .tables .now) (c .before .before .before .before .args .nodes .now) (c .before .before .before .before .args .k) (c .if1 .left)
 
 pub word-width-spec : {M : Type 1} → statement M
 word-width-spec =

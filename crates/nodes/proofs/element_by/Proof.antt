@@ -1,13 +1,14 @@
-use Prim.Native.Nat.{ℕ}
-use mathlib.Core.Path.{_≡_, _∙_, sym, ap, refl}
+-- One answer for each kind, one law for each test on the way.
+use mathlib.Core.Path.{_≡_, refl, sym, ap, _∙_}
 use mathlib.Core.List.{List}
+use Prim.Native.Nat.{ℕ}
 use lib.ListN.{getD}
-use Rattle.lists.specs.Paths.{pick, on-true, on-false, on-lt, off-lt, on-eq, off-eq}
-use Rattle.words.specs.Words.{fits, word}
-use Rattle.netlist.specs.NodeField.{kindRead, gateRead, elementRead}
+use Rattle.lists.specs.Paths.{on-true, on-false, on-eq, off-eq, pick}
+use Rattle.words.specs.Words.{fits}
+use Rattle.netlist.specs.NodeField.{kindRead, gateRead}
 use Rattle.netlist.specs.declared.ElementRead.{ElementRead}
 use Rattle.netlist.specs.declared.ElementRead.the-variants.{Found}
-use Rattle.netlist.specs.declared.Element.the-variants.{Register, Clocked, Gate}
+use Rattle.netlist.specs.declared.Element.the-variants.{Register, Clocked}
 use Rattle.netlist.specs.Net.{rom}
 use borrow.Author.Needs.{needs}
 use Rattle.nodes.proofs.element_by.Statement.{statement}

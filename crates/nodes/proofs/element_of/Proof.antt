@@ -1,13 +1,7 @@
-use Prim.Native.Nat.{ℕ}
-use mathlib.Core.Path.{_≡_, _∙_, sym, ap, refl}
-use mathlib.Core.List.{List}
-use lib.ListN.{getD}
-use Rattle.lists.specs.Paths.{pick, on-true, on-false, on-lt, off-lt, on-eq, off-eq}
-use Rattle.words.specs.Words.{fits, word}
-use Rattle.netlist.specs.NodeField.{kindRead, gateRead, elementRead}
-use Rattle.netlist.specs.declared.ElementRead.{ElementRead}
-use Rattle.netlist.specs.declared.ElementRead.the-variants.{Found}
-use Rattle.netlist.specs.declared.Element.the-variants.{Register, Clocked, Gate}
+-- The tests of kind and width, then the kinds.
+use mathlib.Core.Path.{refl}
+use Rattle.lists.specs.Paths.{on-lt, off-lt, on-eq, off-eq}
+use Rattle.netlist.specs.NodeField.{elementRead}
 use borrow.Author.Needs.{needs}
 use Rattle.nodes.proofs.element_of.Statement.{statement}
 use Rattle.nodes.proofs.element_of.Tie as tie

@@ -1,6 +1,7 @@
+-- The length by the operation's number.
+use native.Mathlib.Omega.{arith}
 use Rattle.lists.specs.Paths.{pick}
 use borrow.Author.Needs.{needs}
-use native.Mathlib.Omega.{arith}
 use borrow.Author.Tests.{ne-eqb}
 use Rattle.nodes.proofs.gate_len.Statement.{statement}
 use Rattle.nodes.proofs.gate_len.Tie as tie

@@ -1,8 +1,9 @@
+-- The element, and the sources for which there is room.
+use mathlib.Core.Path.{_≡_, sym, ap, ap₂, _∙_}
+use mathlib.Core.Bool.{true}
+use mathlib.Core.List.{List}
 use Prim.Native.Nat.{ℕ}
 use native.Mathlib.Omega.{arith}
-use mathlib.Core.Path.{_≡_, ap, ap₂, sym, _∙_, refl}
-use mathlib.Core.List.{List}
-use mathlib.Core.Bool.{true}
 use lib.ListN.{getD}
 use Rattle.netlist.specs.NodeField.{sourcesFrom, nodeRead, nodeWith, firstSource}
 use Rattle.netlist.specs.Net.{operands}

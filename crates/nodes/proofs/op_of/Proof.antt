@@ -1,13 +1,13 @@
-use Rattle.lists.specs.Paths.{pick, on-true, on-false, on-lt, off-lt, on-eq, off-eq}
+-- One law for each test on the way.
+use mathlib.Core.Path.{_≡_, refl, sym, ap, _∙_}
+use Prim.Native.Nat.{ℕ}
+use native.Mathlib.Omega.{arith}
+use lib.ListN.{length, getD}
+use Rattle.lists.specs.Paths.{on-true, on-false, on-lt, off-lt, on-eq, off-eq, pick}
 use Rattle.netlist.specs.declared.OpRead.the-variants.{Found}
 use Rattle.words.specs.declared.Op.the-variants.{Constant}
 use Rattle.words.specs.declared.Op.{Op}
-use Prim.Native.Nat.{ℕ, _≤_, _<_}
-use lib.ListN.{length, getD}
-use native.Mathlib.Omega.{arith}
-use mathlib.Core.Path.{_≡_, _∙_, sym, ap, refl}
-use borrow.Author.Tests.{lt-ltb, le-ltb, eq-eqb, ne-eqb}
-use Rattle.words.specs.Words.{word, fits}
+use Rattle.words.specs.Words.{fits}
 use Rattle.netlist.specs.NodeField.{opRead, gateLength}
 use borrow.Author.Needs.{needs}
 use Rattle.nodes.proofs.op_of.Statement.{statement}

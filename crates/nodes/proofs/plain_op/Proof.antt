@@ -1,12 +1,9 @@
-use Prim.Native.Nat.{suc, zero, _+_, _-_}
-use native.Mathlib.Nat.{not-suc-le-zero, le-of-suc-le-suc}
-use Rattle.words.specs.declared.Op.the-variants.{Join}
-use mathlib.Core.Path.{sym, ap}
-use Rattle.netlist.specs.NodeField.{plainOp}
-use native.Mathlib.Omega.{arith}
-use mathlib.Core.Path.{_≡_, refl}
-use mathlib.Core.Logic.{_⊎_, inl, inr, ⊎-elim}
+-- One answer for each number; the last arm has two.
+use mathlib.Core.Path.{_≡_, sym, ap}
 use Prim.Native.Nat.{ℕ, _<_}
+use native.Mathlib.Omega.{arith}
+use Rattle.netlist.specs.NodeField.{plainOp}
+use mathlib.Core.Logic.{_⊎_, inl, inr, ⊎-elim}
 use native.Mathlib.Decide.{ℕ-discrete}
 use borrow.Author.Needs.{needs}
 use Rattle.nodes.proofs.plain_op.Statement.{statement}

@@ -1,6 +1,6 @@
+-- Three sources, each read or 0.
+use mathlib.Core.List.{[], _∷_}
 use native.Mathlib.Omega.{arith}
-use mathlib.Core.Path.{ap, ap₂, refl}
-use mathlib.Core.List.{_∷_, []}
 use Rattle.netlist.specs.NodeField.{sourcesFrom}
 use borrow.Author.Needs.{needs}
 use Rattle.nodes.proofs.sources_from.Statement.{statement}

@@ -1,3 +1,4 @@
+-- The two ways of the test.
 use mathlib.Core.Path.{refl}
 use Rattle.lists.specs.Paths.{on-lt, off-lt}
 use Rattle.nodes.proofs.word_if.Statement.{statement}

@@ -1,14 +1,7 @@
 -- The byte stands at its place in the field's content.
-use mathlib.Core.Path.{_≡_, sym, ap, _∙_}
-use Prim.Native.Nat.{ℕ, _+_}
 use native.Mathlib.Omega.{arith}
-use lib.ListN.{getD, drop}
-use Rattle.netlist.specs.Field.{content, lengthAt}
-use Rattle.netlist.specs.File.{tableIn}
-use Rattle.netlist.specs.TableField.{tableRead}
-use Rattle.netlist.specs.TableLaws.{table-facts, content-length}
 use borrow.Author.Needs.{needs}
-use lib.Seq.{getD-drop, getD-take}
+use Rattle.reader.proofs.InFile.{table-long, bits-in}
 use Rattle.reader.proofs.table_bits.Statement.{statement}
 use Rattle.reader.proofs.table_bits.Tie as tie
 
@@ -16,23 +9,10 @@ add-result : tie.Need-add-result
 add-result c = search needs
 
 shared-slice-read-result : tie.Need-shared-slice-read-result
-shared-slice-read-result c =
-    let s = c .before .args .file .now in
-    let at = c .before .args .at in
-    let p = c .before .pre in
-    let l = content-length s at (p .inside) in
-    let f = table-facts (content s at) (p .good) .full in
-    omega arith
+shared-slice-read-result c = omega (arith, c .before .pre .inside, table-long (c .before .args .file .now) (c .before .args .at) (c .before .pre))
 
 returns : tie.Need-returns
-unfolding tableIn tableRead
-returns c =
-    let s = c .before .args .file .now in
-    let at = c .before .args .at in
-    let p = c .before .pre in
-    let l = content-length s at (p .inside) in
-    let f = table-facts (content s at) (p .good) .full in
-    sym (getD-take (lengthAt s at) (drop (at + 3) s) 0 0 (omega arith) ∙ getD-drop (at + 3) s 0 0 ∙ ap (λ (k : ℕ). getD s k 0) (let e : at + 3 + 0 ≡ at + 3 = omega arith in e))
+returns c = bits-in (c .before .args .file .now) (c .before .args .at) (c .before .pre)
 
 pub table-bits-spec : {M : Type 1} → statement M
 table-bits-spec = tie.close (tie.spec add-result shared-slice-read-result returns)

@@ -12,12 +12,9 @@ use Rattle.rules.specs.Three.{three}
 use Rattle.rules.proofs.element_widths.Statement.{statement}
 use Rattle.rules.proofs.element_widths.Tie as tie
 
--- LEMMAS
 -- the rule of the element that was matched
 by : (ts : List Table) (w : ℕ) (ws : ℕ → ℕ) {e k : Element} {z : Bool} → e ≡ k → z ≡ widthsRight ts k w ws → z ≡ widthsRight ts e w ws
 by ts w ws e p = p ∙ sym (ap (λ (x : Element). widthsRight ts x w ws) e)
-
--- END
 
 enum-told : tie.Need-enum-told
 enum-told c = search needs

@@ -9,12 +9,9 @@ use Rattle.words.specs.declared.Op.{Op}
 use Rattle.rules.proofs.op_widths.Statement.{statement}
 use Rattle.rules.proofs.op_widths.Tie as tie
 
--- LEMMAS
 -- the rule of the operation that was matched
 by : (w : ℕ) (ws : ℕ → ℕ) {o k : Op} {z : Bool} → o ≡ k → z ≡ opWidths k w ws → z ≡ opWidths o w ws
 by w ws e p = p ∙ sym (ap (λ (o : Op). opWidths o w ws) e)
-
--- END
 
 enum-told : tie.Need-enum-told
 enum-told c = search needs
