@@ -1,0 +1,267 @@
+// The leads of an indexed netlist, and with them the checks 11 and 12. Numbers from 0 up are raised until no reader asks more of what it reads.
+mod worklist;
+
+use index::node;
+use index::wide;
+use netlist::Element;
+use netlist::Verdict;
+use nodes::source_count;
+use order::flag_at;
+use order::number_at;
+use order::put_flag;
+use worklist::spread;
+ghost use mathlib.Core.Path.{_≡_};
+ghost use Prim.Native.Nat.{ℕ, _+_, _<_, _≤_};
+ghost use lib.ListN.{length, getD, replicate};
+ghost use lib.Dec.{ltb};
+ghost use Rattle.lists.specs.Lists.{one, anyBelow, lowest};
+ghost use Rattle.netlist.specs.Net.{isInput, isRegister, isAsync, Sourced};
+ghost use Rattle.netlist.specs.ScanLaws.{Found};
+ghost use Rattle.netlist.specs.File.{netIn};
+ghost use Rattle.retiming.specs.Leads.{asyncHere, owingPort};
+ghost use Rattle.retiming.specs.AtMostRoms.{romCount};
+ghost use Rattle.leads.specs.Debts.{debtsVerdict};
+ghost use Rattle.leads.specs.Progress.{Walked, Given, Content, Quiet, Raise, Progress};
+ghost use Rattle.leads.specs.Settled.{LeadsIn, Outcome};
+
+// What a walk counts: 1 where it leaves an asynchronous ROM, and 1 where it enters a register.
+fn rom_bit(e: Element) -> u8
+    ensures { λ r. ⌜ r ≡ one (isAsync e) ⌝ }
+{
+    match e {
+        Element::Input => 0,
+        Element::Output => 0,
+        Element::Register(_) => 0,
+        Element::Async(_) => 1,
+        Element::Clocked(_, _) => 0,
+        Element::Gate(_) => 0,
+    }
+}
+
+fn register_bit(e: Element) -> usize
+    ensures { λ r. ⌜ r ≡ one (isRegister e) ⌝ }
+{
+    match e {
+        Element::Input => 0,
+        Element::Output => 0,
+        Element::Register(_) => 1,
+        Element::Async(_) => 0,
+        Element::Clocked(_, _) => 0,
+        Element::Gate(_) => 0,
+    }
+}
+
+fn input_port(e: Element) -> bool
+    ensures { λ r. ⌜ r ≡ isInput e ⌝ }
+{
+    match e {
+        Element::Input => true,
+        Element::Output => false,
+        Element::Register(_) => false,
+        Element::Async(_) => false,
+        Element::Clocked(_, _) => false,
+        Element::Gate(_) => false,
+    }
+}
+
+fn wide_bit(x: u8) -> usize
+    ensures { λ r. ⌜ (r ≡ x) × (r ≤ 255) ⌝ }
+{
+    x as usize
+}
+
+// Marks the asynchronous ROMs and gives their number.
+fn mark_roms(file: &[u8], tables: &[u16], nodes: &[u16], roms: &mut [u8]) -> usize
+    requires { ⌜ Found (now file) (now tables) (now nodes) × (length (now nodes) ≤ length (now roms)) ⌝ }
+    ensures { λ r. ⌜ (r ≡ romCount (netIn (now (file .entry)) (now (tables .entry)) (now (nodes .entry))))
+        × ((v : ℕ) → v < length (now (nodes .entry)) → getD (now (roms .exit)) v 0 ≡ asyncHere (netIn (now (file .entry)) (now (tables .entry)) (now (nodes .entry))) v) ⌝ }
+{
+    let mut count: usize = 0;
+    let mut v: usize = 0;
+    while v < nodes.len() {
+        let x = node(file, tables, nodes, v);
+        let e = x.element;
+        let rom = rom_bit(e);
+        put_flag(roms, v, rom);
+        count = count + wide_bit(rom);
+        v = v + 1;
+    }
+    count
+}
+
+// The empty walk's excess at every node.
+fn zero(leads: &mut [u16])
+    ensures { λ _. ⌜ now (leads .exit) ≡ replicate (length (now (leads .entry))) 0 ⌝ }
+{
+    let mut i: usize = 0;
+    while i < leads.len() {
+        leads[i] = 0;
+        i = i + 1;
+    }
+}
+
+// Raises the lead of u to due - taken where it is lower, and then gives 1.
+fn raise(leads: &mut [u16], u: usize, due: usize, taken: usize) -> usize
+    requires { ⌜ (u < length (now leads)) × (due ≤ 2048) × (taken ≤ 1) ⌝ }
+    ensures { λ r. ⌜ Raise (now (leads .entry)) u due taken (now (leads .exit)) r ⌝ }
+{
+    if wide(leads[u]) + taken < due {
+        leads[u] = (due - taken) as u16;
+        return 1;
+    }
+    0
+}
+
+// Raises the leads of what x reads as far as x asks, and gives how many it raised. A lead over the bound shows a closed debt, and asks for no more.
+fn relax(
+    file: &[u8],
+    tables: &[u16],
+    nodes: &[u16],
+    roms: &[u8],
+    bound: usize,
+    x: usize,
+    leads: &mut [u16],
+) -> usize
+    requires { ⌜ Found (now file) (now tables) (now nodes) × Given (netIn (now file) (now tables) (now nodes)) (now roms) bound
+        × (x < length (now nodes)) × Walked (netIn (now file) (now tables) (now nodes)) (now leads) ⌝ }
+    ensures { λ r. ⌜ (r ≤ 3) × Progress (netIn (now (file .entry)) (now (tables .entry)) (now (nodes .entry))) (now (leads .entry)) (now (leads .exit)) r
+        (Content (netIn (now (file .entry)) (now (tables .entry)) (now (nodes .entry))) x) ⌝ }
+{
+    let own = wide(number_at(leads, x));
+    if bound < own {
+        return 0;
+    }
+    let reader = node(file, tables, nodes, x);
+    let e = reader.element;
+    let sources = reader.sources;
+    let taken = register_bit(e);
+    let n = source_count(e);
+    let mut raised: usize = 0;
+    let mut p: usize = 0;
+    while p < n {
+        let u = wide(sources[p]);
+        raised = raised + raise(leads, u, wide_bit(flag_at(roms, u)) + own, taken);
+        p = p + 1;
+    }
+    raised
+}
+
+// ---- passes until no reader asks more
+
+// One pass over all readers; gives how many leads it raised.
+fn pass(
+    file: &[u8],
+    tables: &[u16],
+    nodes: &[u16],
+    roms: &[u8],
+    bound: usize,
+    leads: &mut [u16],
+) -> usize
+    requires { ⌜ Found (now file) (now tables) (now nodes) × Given (netIn (now file) (now tables) (now nodes)) (now roms) bound
+        × Walked (netIn (now file) (now tables) (now nodes)) (now leads) ⌝ }
+    ensures { λ r. ⌜ Progress (netIn (now (file .entry)) (now (tables .entry)) (now (nodes .entry))) (now (leads .entry)) (now (leads .exit)) r
+        (Quiet (netIn (now (file .entry)) (now (tables .entry)) (now (nodes .entry))) (length (now (nodes .entry)))) ⌝ }
+{
+    let mut raised: usize = 0;
+    let mut x: usize = 0;
+    while x < nodes.len() {
+        raised = raised + relax(file, tables, nodes, roms, bound, x, leads);
+        x = x + 1;
+    }
+    raised
+}
+
+// Whether one of the first n leads is over the bound.
+fn over_bound(leads: &[u16], n: usize, bound: usize) -> bool
+    ensures { λ r. ⌜ r ≡ anyBelow n (λ v. ltb bound (getD (now (leads .entry)) v 0)) ⌝ }
+{
+    let mut v: usize = 0;
+    while v < n {
+        if bound < wide(number_at(leads, v)) {
+            return true;
+        }
+        v = v + 1;
+    }
+    false
+}
+
+// Whether the leads settle; if not, a closed walk has positive excess.
+fn settle(
+    file: &[u8],
+    tables: &[u16],
+    nodes: &[u16],
+    roms: &[u8],
+    bound: usize,
+    leads: &mut [u16],
+) -> bool
+    requires { ⌜ Found (now file) (now tables) (now nodes) × Given (netIn (now file) (now tables) (now nodes)) (now roms) bound
+        × Walked (netIn (now file) (now tables) (now nodes)) (now leads) ⌝ }
+    ensures { λ r. ⌜ Outcome (netIn (now (file .entry)) (now (tables .entry)) (now (nodes .entry))) (now (leads .exit)) r ⌝ }
+{
+    loop {
+        if over_bound(leads, nodes.len(), bound) {
+            return false;
+        }
+        if pass(file, tables, nodes, roms, bound, leads) == 0 {
+            return true;
+        }
+    }
+}
+
+// ---- check 12
+
+// Whether v is an input port with a positive lead.
+fn owes(file: &[u8], tables: &[u16], nodes: &[u16], leads: &[u16], v: usize) -> bool
+    requires { ⌜ Found (now file) (now tables) (now nodes) × (v < length (now nodes)) × LeadsIn (netIn (now file) (now tables) (now nodes)) (now leads) ⌝ }
+    ensures { λ r. ⌜ r ≡ owingPort (netIn (now (file .entry)) (now (tables .entry)) (now (nodes .entry))) v ⌝ }
+{
+    let x = node(file, tables, nodes, v);
+    let e = x.element;
+    if input_port(e) {
+        0 < wide(number_at(leads, v))
+    } else {
+        false
+    }
+}
+
+// The lowest input port with a positive lead, or the number of nodes.
+fn lowest_owing(file: &[u8], tables: &[u16], nodes: &[u16], leads: &[u16]) -> usize
+    requires { ⌜ Found (now file) (now tables) (now nodes) × LeadsIn (netIn (now file) (now tables) (now nodes)) (now leads) ⌝ }
+    ensures { λ r. ⌜ r ≡ lowest (length (now (nodes .entry))) (owingPort (netIn (now (file .entry)) (now (tables .entry)) (now (nodes .entry)))) ⌝ }
+{
+    let mut v: usize = 0;
+    while v < nodes.len() {
+        if owes(file, tables, nodes, leads, v) {
+            return v;
+        }
+        v = v + 1;
+    }
+    v
+}
+
+// Finds the leads of a netlist, or says 11 or 12; nothing is then said of the numbers left in the work area.
+// The order is a hint, best an evaluation order of the nodes: it saves time, and any numbers will do.
+pub fn find_leads(
+    file: &[u8],
+    tables: &[u16],
+    nodes: &[u16],
+    order: &[u16],
+    leads: &mut [u16],
+) -> Verdict
+    requires { ⌜ Found (now file) (now tables) (now nodes) × Sourced (netIn (now file) (now tables) (now nodes)) × (1024 ≤ length (now leads)) ⌝ }
+    ensures { λ r. ⌜ (r ≡ debtsVerdict (netIn (now (file .entry)) (now (tables .entry)) (now (nodes .entry))))
+        × (r ≡ Verdict.Fine → LeadsIn (netIn (now (file .entry)) (now (tables .entry)) (now (nodes .entry))) (now (leads .exit))) ⌝ }
+{
+    let mut roms = [0u8; 1024];
+    let bound = mark_roms(file, tables, nodes, &mut roms);
+    zero(leads);
+    spread(file, tables, nodes, &roms, bound, order, leads);
+    if settle(file, tables, nodes, &roms, bound, leads) {
+        let port = lowest_owing(file, tables, nodes, leads);
+        if port < nodes.len() {
+            return Verdict::Refuses(12, port as u16);
+        }
+        return Verdict::Fine;
+    }
+    Verdict::Refuses(11, 65535)
+}
