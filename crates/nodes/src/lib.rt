@@ -212,8 +212,11 @@ fn word_if(s: &[u8], at: usize, i: usize, n: usize) -> u16
     if i < n { word_at(s, at) } else { 0 }
 }
 
+// The sources of a node's record.
+pub type Sources = [u16; 3];
+
 // At most three sources, from the place of the first.
-pub fn sources_from(s: &[u8], at: usize, n: usize) -> [u16; 3]
+pub fn sources_from(s: &[u8], at: usize, n: usize) -> Sources
     requires { ⌜ at + 2 * n ≤ length (now s) ⌝ }
     ensures { λ r. ⌜ r ≡ sourcesFrom (now (s .entry)) at n ⌝ }
 {
