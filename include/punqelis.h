@@ -1,9 +1,7 @@
 /*
- * Punqelis: checks, runs and rewrites netlist files.
+ * Punqelis: checks and runs netlist files.
  *
- * A netlist file describes a clocked circuit of ports, registers, ROMs and gates. The rewriter
- * turns every asynchronous ROM into a clocked one, so that the new file's outputs equal the old
- * file's from reset on, clock by clock.
+ * A netlist file describes a clocked circuit of ports, registers, ROMs and gates.
  *
  * Every function answers one number:
  *   below 65,536   accepted, and the number is a length in bytes (see each function);
@@ -18,7 +16,7 @@
  *
  * Memory. The caller lends the memory that is read and written; none of it is kept after a call.
  * A pointer must not be NULL, also where its length is 0. Memory that a function writes (state,
- * outputs, out) must not overlap with any other memory lent to the same call. When a call is
+ * outputs) must not overlap with any other memory lent to the same call. When a call is
  * refused, no lent byte has changed. Bytes past the length that is answered are never changed.
  *
  * Refusals, in the order in which they are looked for:
@@ -33,10 +31,6 @@
  *    8 unread       no reader, and not a port                             lowest such node
  *    9 loop         a loop of gates and asynchronous ROMs                 lowest node on one
  *   10 ring         a ring of registers alone                             lowest node on one
- *   11 closed debt  more asynchronous ROMs than registers on a ring       place 65,535
- *   12 port debt    too few registers behind an input port                lowest such port
- *   13 grown        the rewritten netlist has over 1,024 nodes            place 65,535
- *   14 out          out is shorter than the rewritten file                place 65,535
  *   15 words        inputs or outputs do not fit the file                 place 65,535
  *   16 state        the state does not fit the file                       place 65,535
  */
@@ -50,7 +44,7 @@
 #define PUNQELIS_REFUSAL(answer) ((answer) / 65536u)
 #define PUNQELIS_PLACE(answer) ((answer) % 65536u)
 
-/* No file that is accepted, and no rewritten one, is longer. */
+/* No file that is accepted is longer. */
 #define PUNQELIS_MAX_FILE 46000
 
 #ifdef __cplusplus
@@ -71,11 +65,6 @@ uint32_t punqelis_run(const uint8_t *file, size_t file_len,
                       uint8_t *state, size_t state_len,
                       const uint8_t *inputs, size_t inputs_len,
                       uint8_t *outputs, size_t outputs_len);
-
-/* Writes the rewritten file to the start of out, which may be longer than needed
- * (PUNQELIS_MAX_FILE is always enough). Checks 1 to 14. Answers the rewritten file's length. */
-uint32_t punqelis_rewrite(const uint8_t *file, size_t file_len,
-                          uint8_t *out, size_t out_len);
 
 #ifdef __cplusplus
 }

@@ -1,9 +1,12 @@
 // The exports for C hosts: include/punqelis.h declares them. A slice is a pointer and a length; the answer is one number.
 use checks::check_file;
 use netlist::Answer;
+use run::reset_state;
+use run::run_clock;
 ghost use mathlib.Core.Path.{_≡_};
 ghost use Prim.Native.Nat.{_≤_};
 ghost use Rattle.netlist.specs.File.{checkAnswer};
+ghost use Rattle.behaviour.specs.Service.{resetFile, runFile};
 ghost use Rattle.host.specs.Code.{codeOf};
 ghost use Rattle.host.specs.CodeLaws.{Within};
 
@@ -36,4 +39,28 @@ pub extern "C" fn punqelis_check(file: &[u8]) -> u32
     ensures { λ r. ⌜ r ≡ codeOf (checkAnswer (now (file .entry))) ⌝ }
 {
     code(check_file(file))
+}
+
+// Fills a state with the reset words: its length, or the refusal, which leaves the state as it was.
+#[no_mangle]
+pub extern "C" fn punqelis_reset(file: &[u8], state: &mut [u8]) -> u32
+    ensures { λ r. ⌜ (r ≡ codeOf (resetFile (now (file .entry)) (now (state .entry)) .answer))
+        × (now (state .exit) ≡ resetFile (now (file .entry)) (now (state .entry)) .state) ⌝ }
+{
+    code(reset_state(file, state))
+}
+
+// Runs one clock: the length of the outputs, or the refusal, which leaves state and outputs as they were.
+#[no_mangle]
+pub extern "C" fn punqelis_run(
+    file: &[u8],
+    state: &mut [u8],
+    inputs: &[u8],
+    outputs: &mut [u8],
+) -> u32
+    ensures { λ r. ⌜ (r ≡ codeOf (runFile (now (file .entry)) (now (state .entry)) (now (inputs .entry)) (now (outputs .entry)) .answer))
+        × (now (state .exit) ≡ runFile (now (file .entry)) (now (state .entry)) (now (inputs .entry)) (now (outputs .entry)) .state)
+        × (now (outputs .exit) ≡ runFile (now (file .entry)) (now (state .entry)) (now (inputs .entry)) (now (outputs .entry)) .outputs) ⌝ }
+{
+    code(run_clock(file, state, inputs, outputs))
 }

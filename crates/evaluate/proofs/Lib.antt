@@ -1,0 +1,4 @@
+pub mod RowKinds
+pub mod ByKind
+pub mod Roms
+pub mod Rows

@@ -1,0 +1,31 @@
+-- What a node gives from the words of all nodes, and the words of a clock. Assumes nothing.
+use mathlib.Core.Path.{_≡_}
+use mathlib.Core.List.{List}
+use Prim.Native.Nat.{ℕ, _^_, _<_}
+use lib.ListN.{length, getD}
+use Rattle.netlist.specs.Net.{Net, size, nodeAt, elementAt, widthAt, source, withinClock, contentsIn}
+use Rattle.netlist.specs.declared.Element.{Element}
+use Rattle.behaviour.specs.Run.{gives-now, words}
+use Rattle.evaluate.specs.Rows.{rowOf}
+use Rattle.evaluate.specs.declared.Row.the-variants.{Inputs, State}
+
+-- what an element gives: `own` where its word was loaded, else from its sources' words
+abbrev pub elementWord : Net → Element → ℕ → List ℕ → ℕ → List ℕ → ℕ
+elementWord N e w sources own ws =
+    gives-now (contentsIn (N .tables) e) e w (λ p. widthAt N (getD sources p 0)) own own (λ p. getD ws (getD sources p 0) 0)
+
+unfoldable pub nodeWord : Net → List ℕ → ℕ → ℕ
+nodeWord N ws v = elementWord N (elementAt N v) (widthAt N v) (nodeAt N v .sources) (getD ws v 0) ws
+
+-- the words that a node reads within the clock fit
+abbrev pub OperandsFit : Net → List ℕ → ℕ → Type 0
+OperandsFit N ws v = (p : ℕ) → p < withinClock (elementAt N v) → getD ws (source N v p) 0 < 2 ^ widthAt N (source N v p)
+
+-- the words of the clock in which input ports, registers and clocked ROMs have these words
+unfoldable pub clockWords : Net → List ℕ → List ℕ
+clockWords N ws = words N (rowOf State N ws) (rowOf Inputs N ws)
+
+-- every node has its word of the clock
+pub record Evaluated (N : Net) (before after : List ℕ) : Type 0 where
+  pub kept : length after ≡ length before
+  pub each : (v : ℕ) → v < size N → getD after v 0 ≡ getD (clockWords N before) v 0

@@ -1,0 +1,5 @@
+pub mod Filling
+pub mod NextWords
+pub mod Joined
+pub mod Outcomes
+pub mod Opened

@@ -1,0 +1,84 @@
+-- The outcome of reset and run over a netlist, by the tests that the code makes. Assumes nothing.
+use mathlib.Core.Path.{_≡_, refl, sym, ap, _∙_}
+use mathlib.Core.Bool.{Bool, true, false, cond, _&&_}
+use mathlib.Core.List.{List}
+use Prim.Native.Nat.{ℕ, _*_}
+use native.Mathlib.Omega.{arith}
+use lib.ListN.{length}
+use borrow.Author.Tests.{eq-eqb, ne-eqb}
+use Rattle.lists.specs.Lists.{countBelow}
+use Rattle.lists.specs.BelowLaws.{and-left, eqb-true}
+use Rattle.lists.specs.ListsLaws.{length-select}
+use Rattle.netlist.specs.Net.{Net, size, widthAt}
+use Rattle.netlist.specs.declared.Answer.the-variants.{Accepted, Refused}
+use Rattle.behaviour.specs.Run.{resetState, runOutputs, runState}
+use Rattle.behaviour.specs.Runs.{inputWidths, outputWidths, stateWidths, fitting}
+use Rattle.behaviour.specs.Service.{bytesOf, wordsIn, roomFor, fittingBytes, Filled, resetNet, Ran, runNet}
+use Rattle.evaluate.specs.Rows.{rowTest, rowWidths}
+use Rattle.evaluate.specs.declared.Row.{Row}
+use Rattle.evaluate.specs.declared.Row.the-variants.{Inputs, Outputs, State}
+
+-- a contract says each part
+pub filled : {x y : Filled} → y ≡ x → (x .answer ≡ y .answer) × (x .state ≡ y .state)
+filled e = (sym (ap (λ (f : Filled). f .answer) e), sym (ap (λ (f : Filled). f .state) e))
+
+pub ran : {x y : Ran} → y ≡ x → (x .answer ≡ y .answer) × (x .state ≡ y .state) × (x .outputs ≡ y .outputs)
+ran e = (sym (ap (λ (r : Ran). r .answer) e), sym (ap (λ (r : Ran). r .state) e), sym (ap (λ (r : Ran). r .outputs) e))
+
+-- ---- a row's length
+
+module _ (N : Net) {n k : ℕ} (z : size N ≡ n) (row : Row) (c : k ≡ countBelow (rowTest row N) n) (b : List ℕ) where
+  words : length (rowWidths row N) ≡ k
+  words = length-select (rowTest row N) (λ v. widthAt N v) (size N) ∙ ap (countBelow (rowTest row N)) z ∙ sym c
+
+  pub row-room : length b ≡ 2 * k → roomFor (rowWidths row N) b ≡ true
+  row-room e = eq-eqb (length b) (2 * length (rowWidths row N)) (omega (arith, words))
+
+  pub row-other : (length b ≡ 2 * k → ⊥) → roomFor (rowWidths row N) b ≡ false
+  row-other d = ne-eqb (length b) (2 * length (rowWidths row N)) (λ e. d (omega (arith, words)))
+
+-- what the test of a row's length says
+pub row-length : (N : Net) (row : Row) (b : List ℕ) → roomFor (rowWidths row N) b ≡ true → length b ≡ 2 * countBelow (rowTest row N) (size N)
+row-length N row b t =
+    let e : length b ≡ 2 * length (rowWidths row N) = eqb-true t in
+    omega (arith, length-select (rowTest row N) (λ v. widthAt N v) (size N))
+
+pub fitting-room : (ws b : List ℕ) → fittingBytes ws b ≡ true → roomFor ws b ≡ true
+fitting-room ws b t = and-left (roomFor ws b) (fitting ws (wordsIn b)) t
+
+-- ---- reset
+
+module _ (N : Net) (st : List ℕ) where
+  pub reset-done : roomFor (rowWidths State N) st ≡ true → resetNet N st ≡ record { answer = Accepted (length st); state = bytesOf (resetState N) }
+  unfolding resetNet stateWidths
+  reset-done t = ap (λ (b : Bool). cond b (record { answer = Accepted (length st); state = bytesOf (resetState N) }) (record { answer = Refused 16 65535; state = st })) t
+
+  pub reset-refused : roomFor (rowWidths State N) st ≡ false → resetNet N st ≡ record { answer = Refused 16 65535; state = st }
+  unfolding resetNet stateWidths
+  reset-refused t = ap (λ (b : Bool). cond b (record { answer = Accepted (length st); state = bytesOf (resetState N) }) (record { answer = Refused 16 65535; state = st })) t
+
+-- ---- run
+
+module _ (N : Net) (st ins outs : List ℕ) where
+  abbrev done : Ran
+  done = record { answer = Accepted (length outs); state = bytesOf (runState N (wordsIn st) (wordsIn ins)); outputs = bytesOf (runOutputs N (wordsIn st) (wordsIn ins)) }
+
+  abbrev turned-away : ℕ → Ran
+  turned-away k = record { answer = Refused k 65535; state = st; outputs = outs }
+
+  by-tests : {a b c : Bool} → fittingBytes (rowWidths Inputs N) ins ≡ a → roomFor (rowWidths Outputs N) outs ≡ b → fittingBytes (rowWidths State N) st ≡ c
+      → runNet N st ins outs ≡ cond (a && b) (cond c done (turned-away 16)) (turned-away 15)
+  unfolding runNet inputWidths outputWidths stateWidths
+  by-tests p q r = λ i. cond (p i && q i) (cond (r i) done (turned-away 16)) (turned-away 15)
+
+  pub run-inputs : fittingBytes (rowWidths Inputs N) ins ≡ false → runNet N st ins outs ≡ turned-away 15
+  run-inputs p = by-tests p refl refl
+
+  pub run-room : fittingBytes (rowWidths Inputs N) ins ≡ true → roomFor (rowWidths Outputs N) outs ≡ false → runNet N st ins outs ≡ turned-away 15
+  run-room p q = by-tests p q refl
+
+  pub run-refused : fittingBytes (rowWidths Inputs N) ins ≡ true → roomFor (rowWidths Outputs N) outs ≡ true → fittingBytes (rowWidths State N) st ≡ false → runNet N st ins outs ≡ turned-away 16
+  run-refused p q r = by-tests p q r
+
+  pub run-done : fittingBytes (rowWidths Inputs N) ins ≡ true → roomFor (rowWidths Outputs N) outs ≡ true → fittingBytes (rowWidths State N) st ≡ true → runNet N st ins outs ≡ done
+  run-done p q r = by-tests p q r

@@ -1,0 +1,227 @@
+// The reset service and the run of one clock, on the bytes that a host lends. Nothing is written before every check is passed.
+use checks::open_file;
+use evaluate::Row;
+use evaluate::byte_at;
+use evaluate::count_row;
+use evaluate::evaluate;
+use evaluate::in_row;
+use evaluate::load_row;
+use evaluate::operand;
+use evaluate::rom_word;
+use index::node;
+use index::wide;
+use netlist::Answer;
+use netlist::Element;
+use netlist::Scanned;
+use order::number_at;
+ghost use mathlib.Core.Path.{_≡_};
+ghost use mathlib.Core.Bool.{true};
+ghost use Prim.Native.Nat.{_+_, _/_, _%_, _<_};
+ghost use lib.ListN.{length, getD, set};
+ghost use Rattle.netlist.specs.Net.{inClock, outputsOf};
+ghost use Rattle.netlist.specs.Checks.{WellFormed};
+ghost use Rattle.netlist.specs.ScanLaws.{Found};
+ghost use Rattle.netlist.specs.File.{netIn};
+ghost use Rattle.order.specs.Order.{Complete};
+ghost use Rattle.behaviour.specs.Run.{holds-first, resetState, nextState};
+ghost use Rattle.behaviour.specs.Service.{bytesOf, wordsIn, roomFor, resetNet, resetFile, runNet, runFile};
+ghost use Rattle.evaluate.specs.Rows.{rowTest, rowWidths};
+ghost use Rattle.run.specs.Next.{nextWord, WordsFit};
+
+// Writes a word, high byte first.
+fn put_word(out: &mut [u8], at: usize, w: u16)
+    requires { ⌜ at + 1 < length (now out) ⌝ }
+    ensures { λ _. ⌜ now (out .exit) ≡ set (set (now (out .entry)) at (w / 256)) (at + 1) (w % 256) ⌝ }
+{
+    out[at] = (w / 256) as u8;
+    out[at + 1] = (w % 256) as u8;
+}
+
+// ---- reset
+
+// The word that an element holds after reset.
+fn reset_word(e: Element) -> u16
+    ensures { λ r. ⌜ r ≡ holds-first e ⌝ }
+{
+    match e {
+        Element::Input => 0,
+        Element::Output => 0,
+        Element::Register(reset) => reset,
+        Element::Async(_) => 0,
+        Element::Clocked(_, reset) => reset,
+        Element::Gate(_) => 0,
+    }
+}
+
+// Fills a state with the reset words.
+fn store_reset(file: &[u8], tables: &[u16], nodes: &[u16], state: &mut [u8])
+    requires { ⌜ Found (now file) (now tables) (now nodes)
+        × (roomFor (rowWidths Row.State (netIn (now file) (now tables) (now nodes))) (now state) ≡ true) ⌝ }
+    ensures { λ _. ⌜ now (state .exit) ≡ bytesOf (resetState (netIn (now (file .entry)) (now (tables .entry)) (now (nodes .entry)))) ⌝ }
+{
+    let mut at: usize = 0;
+    let mut v: usize = 0;
+    while v < nodes.len() {
+        if in_row(file, tables, nodes, Row::State, v) {
+            let x = node(file, tables, nodes, v);
+            let e = x.element;
+            put_word(state, at, reset_word(e));
+            at = at + 2;
+            v = v + 1;
+        } else {
+            v = v + 1;
+        }
+    }
+}
+
+// The reset service over an opened file: 16 where the state's length does not fit.
+fn reset_opened(file: &[u8], tables: &[u16], nodes: &[u16], state: &mut [u8]) -> Answer
+    requires { ⌜ Found (now file) (now tables) (now nodes) ⌝ }
+    ensures { λ r. ⌜ (r ≡ resetNet (netIn (now (file .entry)) (now (tables .entry)) (now (nodes .entry))) (now (state .entry)) .answer)
+        × (now (state .exit) ≡ resetNet (netIn (now (file .entry)) (now (tables .entry)) (now (nodes .entry))) (now (state .entry)) .state) ⌝ }
+{
+    if state.len() == 2 * count_row(file, tables, nodes, Row::State) {
+        store_reset(file, tables, nodes, state);
+        Answer::Accepted(state.len())
+    } else {
+        Answer::Refused(16, 65535)
+    }
+}
+
+// ---- run
+
+// The word that a register or a clocked ROM holds after the clock: its source's, or the table's word at its source's.
+fn next_word(file: &[u8], tables: &[u16], nodes: &[u16], v: usize, words: &[u16]) -> u16
+    requires { ⌜ Found (now file) (now tables) (now nodes) × WellFormed (netIn (now file) (now tables) (now nodes)) × (v < length (now nodes))
+        × (rowTest Row.State (netIn (now file) (now tables) (now nodes)) v ≡ true) × WordsFit (netIn (now file) (now tables) (now nodes)) (now words) ⌝ }
+    ensures { λ r. ⌜ r ≡ nextWord (netIn (now (file .entry)) (now (tables .entry)) (now (nodes .entry))) (now (words .entry)) v ⌝ }
+{
+    let at = wide(nodes[v]);
+    let word = operand(file, at + 5, words);
+    if byte_at(file, at + 3) == 2 {
+        word
+    } else {
+        rom_word(
+            file,
+            tables,
+            nodes,
+            byte_at(file, at + 7) as usize,
+            wide(word),
+        )
+    }
+}
+
+// Puts the next state in the state's place. The words of the clock stay as they are, so no register sees another's new word.
+fn store_state(file: &[u8], tables: &[u16], nodes: &[u16], words: &[u16], state: &mut [u8])
+    requires { ⌜ Found (now file) (now tables) (now nodes) × WellFormed (netIn (now file) (now tables) (now nodes))
+        × WordsFit (netIn (now file) (now tables) (now nodes)) (now words)
+        × (roomFor (rowWidths Row.State (netIn (now file) (now tables) (now nodes))) (now state) ≡ true) ⌝ }
+    ensures { λ _. ⌜ now (state .exit) ≡ bytesOf (nextState (netIn (now (file .entry)) (now (tables .entry)) (now (nodes .entry))) (wordsIn (now (state .entry))) (now (words .entry))) ⌝ }
+{
+    let mut at: usize = 0;
+    let mut u: usize = 0;
+    while u < nodes.len() {
+        if in_row(file, tables, nodes, Row::State, u) {
+            put_word(state, at, next_word(file, tables, nodes, u, words));
+            at = at + 2;
+            u = u + 1;
+        } else {
+            u = u + 1;
+        }
+    }
+}
+
+// Writes the words of the output ports.
+fn store_outputs(file: &[u8], tables: &[u16], nodes: &[u16], words: &[u16], outputs: &mut [u8])
+    requires { ⌜ Found (now file) (now tables) (now nodes)
+        × (roomFor (rowWidths Row.Outputs (netIn (now file) (now tables) (now nodes))) (now outputs) ≡ true) ⌝ }
+    ensures { λ _. ⌜ now (outputs .exit) ≡ bytesOf (outputsOf (netIn (now (file .entry)) (now (tables .entry)) (now (nodes .entry))) (λ v. getD (now (words .entry)) v 0)) ⌝ }
+{
+    let mut at: usize = 0;
+    let mut v: usize = 0;
+    while v < nodes.len() {
+        if in_row(file, tables, nodes, Row::Outputs, v) {
+            put_word(outputs, at, number_at(words, v));
+            at = at + 2;
+            v = v + 1;
+        } else {
+            v = v + 1;
+        }
+    }
+}
+
+// A run over an opened file: 15, then 16, and only then a write.
+fn run_opened(
+    file: &[u8],
+    tables: &[u16],
+    nodes: &[u16],
+    order: &[u16],
+    state: &mut [u8],
+    inputs: &[u8],
+    outputs: &mut [u8],
+) -> Answer
+    requires { ⌜ Found (now file) (now tables) (now nodes) × WellFormed (netIn (now file) (now tables) (now nodes))
+        × Complete inClock (netIn (now file) (now tables) (now nodes)) (now order) ⌝ }
+    ensures { λ r. ⌜ (r ≡ runNet (netIn (now (file .entry)) (now (tables .entry)) (now (nodes .entry))) (now (state .entry)) (now (inputs .entry)) (now (outputs .entry)) .answer)
+        × (now (state .exit) ≡ runNet (netIn (now (file .entry)) (now (tables .entry)) (now (nodes .entry))) (now (state .entry)) (now (inputs .entry)) (now (outputs .entry)) .state)
+        × (now (outputs .exit) ≡ runNet (netIn (now (file .entry)) (now (tables .entry)) (now (nodes .entry))) (now (state .entry)) (now (inputs .entry)) (now (outputs .entry)) .outputs) ⌝ }
+{
+    let mut words = [0u16; 1024];
+    if load_row(file, tables, nodes, Row::Inputs, inputs, &mut words) {
+        if outputs.len() == 2 * count_row(file, tables, nodes, Row::Outputs) {
+            if load_row(file, tables, nodes, Row::State, state, &mut words) {
+                evaluate(file, tables, nodes, order, &mut words);
+                store_outputs(file, tables, nodes, &words, outputs);
+                store_state(file, tables, nodes, &words, state);
+                Answer::Accepted(outputs.len())
+            } else {
+                Answer::Refused(16, 65535)
+            }
+        } else {
+            Answer::Refused(15, 65535)
+        }
+    } else {
+        Answer::Refused(15, 65535)
+    }
+}
+
+// ---- the services
+
+// Fills a lent state with the reset words.
+pub fn reset_state(file: &[u8], state: &mut [u8]) -> Answer
+    ensures { λ r. ⌜ (r ≡ resetFile (now (file .entry)) (now (state .entry)) .answer)
+        × (now (state .exit) ≡ resetFile (now (file .entry)) (now (state .entry)) .state) ⌝ }
+{
+    let mut tables = [0u16; 16];
+    let mut nodes = [0u16; 1024];
+    let mut order = [0u16; 1024];
+    match open_file(file, &mut tables, &mut nodes, &mut order) {
+        Scanned::Refuse(number, place) => Answer::Refused(number, place),
+        Scanned::Fields(t, n) => reset_opened(file, &tables[..t], &nodes[..n], state),
+    }
+}
+
+// One clock: from a state and a word for each input port, a word for each output port, and the next state in the state's place.
+pub fn run_clock(file: &[u8], state: &mut [u8], inputs: &[u8], outputs: &mut [u8]) -> Answer
+    ensures { λ r. ⌜ (r ≡ runFile (now (file .entry)) (now (state .entry)) (now (inputs .entry)) (now (outputs .entry)) .answer)
+        × (now (state .exit) ≡ runFile (now (file .entry)) (now (state .entry)) (now (inputs .entry)) (now (outputs .entry)) .state)
+        × (now (outputs .exit) ≡ runFile (now (file .entry)) (now (state .entry)) (now (inputs .entry)) (now (outputs .entry)) .outputs) ⌝ }
+{
+    let mut tables = [0u16; 16];
+    let mut nodes = [0u16; 1024];
+    let mut order = [0u16; 1024];
+    match open_file(file, &mut tables, &mut nodes, &mut order) {
+        Scanned::Refuse(number, place) => Answer::Refused(number, place),
+        Scanned::Fields(t, n) => {
+            run_opened(
+                file,
+                &tables[..t],
+                &nodes[..n],
+                &order,
+                state,
+                inputs,
+                outputs,
+            )
+        }
+    }
+}
