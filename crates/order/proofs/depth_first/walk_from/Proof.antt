@@ -6,8 +6,8 @@ use lib.ListN.{length}
 use borrow.Author.Needs.{needs}
 use Rattle.netlist.specs.File.{netIn}
 use Rattle.order.specs.Order.{classOf, Placed}
-use Rattle.order.proofs.walk_from.Statement.{statement}
-use Rattle.order.proofs.walk_from.Tie as tie
+use Rattle.order.proofs.depth_first.walk_from.Statement.{statement}
+use Rattle.order.proofs.depth_first.walk_from.Tie as tie
 
 abbrev Inv-loop : tie.InvT-loop
 Inv-loop file tables nodes steps root flags₀ order₀ stack₀ met₀ hint₀ before noted placed at₀ left₀ flags order stack met hint at left = (length flags ≡ length flags₀) × (length order ≡ length order₀) × (length stack ≡ length stack₀) × (length met ≡ length met₀) × (length hint ≡ length hint₀) × (at .depth + left ≤ 2049) × (at .noted + left ≤ 18432) × Placed (classOf steps) (netIn file tables nodes) flags order (at .placed)

@@ -5,8 +5,8 @@ use native.Mathlib.Omega.{arith}
 use lib.ListN.{length, length-replicate}
 use Rattle.netlist.specs.File.{netIn}
 use Rattle.order.specs.Order.{classOf, Placed}
-use Rattle.order.proofs.walk_all.Statement.{statement}
-use Rattle.order.proofs.walk_all.Tie as tie
+use Rattle.order.proofs.depth_first.walk_all.Statement.{statement}
+use Rattle.order.proofs.depth_first.walk_all.Tie as tie
 
 abbrev Inv-loop : tie.InvT-loop
 Inv-loop file tables nodes steps flags₀ order₀ hint₀ stack₀ met₀ placed₀ noted₀ root₀ flags order hint stack met placed noted root = (length flags ≡ length flags₀) × (length order ≡ length order₀) × (length hint ≡ length hint₀) × (length stack ≡ 1024) × (length met ≡ 1024) × Placed (classOf steps) (netIn file tables nodes) flags order placed

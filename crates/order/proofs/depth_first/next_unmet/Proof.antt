@@ -2,8 +2,8 @@
 use Prim.Native.Nat.{_-_, _≤_}
 use native.Mathlib.Omega.{arith}
 use borrow.Author.Needs.{needs}
-use Rattle.order.proofs.next_unmet.Statement.{statement}
-use Rattle.order.proofs.next_unmet.Tie as tie
+use Rattle.order.proofs.depth_first.next_unmet.Statement.{statement}
+use Rattle.order.proofs.depth_first.next_unmet.Tie as tie
 
 abbrev Inv-loop : tie.InvT-loop
 Inv-loop file tables nodes v met n sources p₀ p = p ≤ 3

@@ -1,0 +1,216 @@
+// A depth-first walk that proposes an order: down to what a node reads, back with the node placed. Nobody trusts it; it saves passes.
+use super::Steps;
+use super::counted;
+use super::flag_at;
+use super::number_at;
+use super::place;
+use super::put_flag;
+use super::put_number;
+use index::node;
+use index::wide;
+ghost use Prim.Native.Nat.{_+_, _<_, _≤_};
+ghost use lib.ListN.{length};
+ghost use Rattle.netlist.specs.Net.{Sourced};
+ghost use Rattle.netlist.specs.ScanLaws.{Found};
+ghost use Rattle.netlist.specs.File.{netIn};
+ghost use Rattle.order.specs.Order.{classOf, Placed};
+
+// How far a depth-first walk has come: how many nodes are on its stack, how many are placed, and how many it has left.
+pub struct Walk {
+    pub depth: usize,
+    pub placed: usize,
+    pub noted: usize,
+}
+
+// The first source of v that counts and was not met yet, or the number of nodes.
+fn next_unmet(
+    file: &[u8],
+    tables: &[u16],
+    nodes: &[u16],
+    steps: Steps,
+    v: usize,
+    met: &[u8],
+) -> usize
+    requires { ⌜ Found (now file) (now tables) (now nodes) × (v < length (now nodes)) ⌝ }
+    ensures { λ r. ⌜ r ≤ length (now (nodes .entry)) ⌝ }
+{
+    let x = node(file, tables, nodes, v);
+    let e = x.element;
+    let n = counted(e, steps);
+    let sources = x.sources;
+    let mut p: usize = 0;
+    while p < 3 {
+        if n <= p {
+            return nodes.len();
+        }
+        let u = wide(sources[p]);
+        if u < nodes.len() {
+            if flag_at(met, u) == 0 {
+                return u;
+            }
+        }
+        p = p + 1;
+    }
+    nodes.len()
+}
+
+// One step of the walk: down to a source not met yet, or back, placing the node. The hint notes the nodes as the walk leaves them, placed or not.
+fn walk_step(
+    file: &[u8],
+    tables: &[u16],
+    nodes: &[u16],
+    steps: Steps,
+    flags: &mut [u8],
+    order: &mut [u16],
+    stack: &mut [u16],
+    met: &mut [u8],
+    hint: &mut [u16],
+    at: Walk,
+) -> Walk
+    requires { ⌜ Found (now file) (now tables) (now nodes) × Sourced (netIn (now file) (now tables) (now nodes)) × (at .depth ≤ 65535) × (at .noted ≤ 65535)
+        × Placed (classOf steps) (netIn (now file) (now tables) (now nodes)) (now flags) (now order) (at .placed) ⌝ }
+    ensures { λ r. ⌜ (r .depth ≤ at .depth + 1) × (r .noted ≤ at .noted + 1) × Placed (classOf steps) (netIn (now (file .entry)) (now (tables .entry)) (now (nodes .entry))) (now (flags .exit)) (now (order .exit)) (r .placed) ⌝ }
+{
+    let depth = at.depth;
+    let placed = at.placed;
+    let noted = at.noted;
+    if depth == 0 {
+        return Walk {
+            depth,
+            placed,
+            noted,
+        };
+    }
+    let v = wide(number_at(stack, depth - 1));
+    if nodes.len() <= v {
+        return Walk {
+            depth: depth - 1,
+            placed,
+            noted,
+        };
+    }
+    let u = next_unmet(file, tables, nodes, steps, v, met);
+    if u < nodes.len() {
+        put_flag(met, u, 1);
+        put_number(stack, depth, u as u16);
+        return Walk {
+            depth: depth + 1,
+            placed,
+            noted,
+        };
+    }
+    put_number(hint, noted, v as u16);
+    let more = place(file, tables, nodes, steps, v, flags, order, placed);
+    Walk {
+        depth: depth - 1,
+        placed: more,
+        noted: noted + 1,
+    }
+}
+
+// Places a node not met yet, and first what it reads, as far as a walk of so many steps gets.
+fn walk_from(
+    file: &[u8],
+    tables: &[u16],
+    nodes: &[u16],
+    steps: Steps,
+    root: usize,
+    flags: &mut [u8],
+    order: &mut [u16],
+    stack: &mut [u16],
+    met: &mut [u8],
+    hint: &mut [u16],
+    start: Walk,
+) -> Walk
+    requires { ⌜ Found (now file) (now tables) (now nodes) × Sourced (netIn (now file) (now tables) (now nodes)) × (root < length (now nodes)) × (start .noted ≤ 16384)
+        × Placed (classOf steps) (netIn (now file) (now tables) (now nodes)) (now flags) (now order) (start .placed) ⌝ }
+    ensures { λ r. ⌜ (r .noted ≤ 32768) × Placed (classOf steps) (netIn (now (file .entry)) (now (tables .entry)) (now (nodes .entry))) (now (flags .exit)) (now (order .exit)) (r .placed) ⌝ }
+{
+    if 0 < flag_at(met, root) {
+        return start;
+    }
+    put_flag(met, root, 1);
+    let before = start.placed;
+    let noted = start.noted;
+    let placed = place(file, tables, nodes, steps, root, flags, order, before);
+    if 0 < flag_at(flags, root) {
+        put_number(hint, noted, root as u16);
+        return Walk {
+            depth: 0,
+            placed,
+            noted: noted + 1,
+        };
+    }
+    put_number(stack, 0, root as u16);
+    let mut at = Walk {
+        depth: 1,
+        placed,
+        noted,
+    };
+    let mut left: usize = 2048;
+    while 0 < left {
+        if at.depth == 0 {
+            return at;
+        }
+        at = walk_step(
+            file,
+            tables,
+            nodes,
+            steps,
+            flags,
+            order,
+            stack,
+            met,
+            hint,
+            at,
+        );
+        left = left - 1;
+    }
+    at
+}
+
+// Walks from every node in file order.
+pub fn walk_all(
+    file: &[u8],
+    tables: &[u16],
+    nodes: &[u16],
+    steps: Steps,
+    flags: &mut [u8],
+    order: &mut [u16],
+    hint: &mut [u16],
+) -> usize
+    requires { ⌜ Found (now file) (now tables) (now nodes) × Sourced (netIn (now file) (now tables) (now nodes))
+        × Placed (classOf steps) (netIn (now file) (now tables) (now nodes)) (now flags) (now order) 0 ⌝ }
+    ensures { λ r. ⌜ Placed (classOf steps) (netIn (now (file .entry)) (now (tables .entry)) (now (nodes .entry))) (now (flags .exit)) (now (order .exit)) r ⌝ }
+{
+    let mut stack = [0u16; 1024];
+    let mut met = [0u8; 1024];
+    let mut placed: usize = 0;
+    let mut noted: usize = 0;
+    let mut root: usize = 0;
+    while root < nodes.len() {
+        // No node is noted twice, so the cut never bites.
+        let start = Walk {
+            depth: 0,
+            placed,
+            noted: noted % 16384,
+        };
+        let at = walk_from(
+            file,
+            tables,
+            nodes,
+            steps,
+            root,
+            flags,
+            order,
+            &mut stack,
+            &mut met,
+            hint,
+            start,
+        );
+        placed = at.placed;
+        noted = at.noted;
+        root = root + 1;
+    }
+    placed
+}
