@@ -40,7 +40,7 @@ fn put_word(out: &mut [u8], at: usize, w: u16)
 // ---- reset
 
 // The word that an element holds after reset.
-fn reset_word(e: Element) -> u16
+pub fn reset_word(e: Element) -> u16
     ensures { λ r. ⌜ r ≡ holds-first e ⌝ }
 {
     match e {
@@ -91,7 +91,7 @@ fn reset_opened(file: &[u8], tables: &[u16], nodes: &[u16], state: &mut [u8]) ->
 // ---- run
 
 // The word that a register or a clocked ROM holds after the clock: its source's, or the table's word at its source's.
-fn next_word(file: &[u8], tables: &[u16], nodes: &[u16], v: usize, words: &[u16]) -> u16
+pub fn next_word(file: &[u8], tables: &[u16], nodes: &[u16], v: usize, words: &[u16]) -> u16
     requires { ⌜ Found (now file) (now tables) (now nodes) × WellFormed (netIn (now file) (now tables) (now nodes)) × (v < length (now nodes))
         × (rowTest Row.State (netIn (now file) (now tables) (now nodes)) v ≡ true) × WordsFit (netIn (now file) (now tables) (now nodes)) (now words) ⌝ }
     ensures { λ r. ⌜ r ≡ nextWord (netIn (now (file .entry)) (now (tables .entry)) (now (nodes .entry))) (now (words .entry)) v ⌝ }

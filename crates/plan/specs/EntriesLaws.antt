@@ -1,0 +1,326 @@
+-- Entries placed one after the other. Assumes nothing.
+use mathlib.Core.Path.{_≡_, refl, sym, ap, ap₂, subst, _∙_}
+use mathlib.Core.Logic.{_⊎_, inl, inr, ⊎-elim}
+use mathlib.Core.Bool.{Bool, true, false, cond, not, _&&_, false≢true}
+use mathlib.Core.List.{List, [], _∷_, _++_, map, append-nil, append-assoc}
+use Prim.Native.Nat.{ℕ, zero, suc, _+_, _-_, _*_, _/_, _%_, _≤_, _<_, zero-le, suc-le-suc}
+use native.Mathlib.Nat.{zero-add, not-suc-le-zero, le-refl}
+use native.Mathlib.Omega.{arith}
+use lib.ListN.{length, getD, set, length-append, length-map, List·getD-append}
+use lib.Seq.{getD-append-add, getD-set-same, getD-set-other, getD-append-seam}
+use lib.Dec.{eqb, ltb}
+use borrow.Author.Tests.{eq-eqb, ne-eqb, lt-ltb, le-ltb}
+use Rattle.lists.specs.Lists.{below, concatMap, only, one, has, addNew, distinctFrom, distinct}
+use Rattle.lists.specs.BelowLaws.{true-or-false, lt-or-le, eqb-self, eqb-true, getD-map-lt, lt-suc-split}
+use Rattle.lists.specs.ListsLaws.{concatMap-cong, getD-has}
+use Rattle.netlist.specs.declared.Element.{Element}
+use Rattle.netlist.specs.declared.Element.the-variants.{Input, Output, Register, Async, Clocked, Gate}
+use Rattle.netlist.specs.declared.Node.{Node}
+use Rattle.netlist.specs.Net.{Net, size, nodeAt, elementAt, source, operands, isRegister, isMemory}
+use Rattle.netlist.specs.NodeLaws.{few-operands}
+use Rattle.behaviour.specs.Run.{zeroWord}
+use Rattle.retiming.specs.Rewrite.{Place, Entry, Reg, root, memoryAt, stays, copyOn, copiesAt, copiesOf, copies, entriesOf, entryPlaces, timing, timingBy}
+use Rattle.retiming.specs.Layout.{noPlace}
+use Rattle.plan.specs.Threes.{concat-next, inRow, row-of-three, in-threes}
+use Rattle.plan.specs.Wiring.{wiresTo, sourceOf, wireAt, Wired, Unwired, WiredTo, Copied}
+use Rattle.plan.specs.WiringLaws.{wires-few}
+use Rattle.plan.specs.Entries.{Finds, Stored, Placing, Adds, wantedOf, Wants, AddsAll, entriesBefore, Firsts, AllPlaced}
+
+-- ---- one entry more
+
+module _ {owners words : List ℕ} {l : List Place} {count : ℕ} (t : Placing owners words l count) (a : 1024 ≤ length owners) (b : 1024 ≤ length words) (u c : ℕ) where
+  abbrev more : List Place
+  more = l ++ Entry u c ∷ []
+
+  more-length : length more ≡ length l + 1
+  more-length = length-append l (Entry u c ∷ [])
+
+  stored-more : count + 1 ≤ 1024 → (count + 1 ≡ length more) × Stored (set owners count u) (set words count c) more
+  stored-more h = go (t .exact (omega arith))
+    where
+      go : (count ≡ length l) × Stored owners words l → (count + 1 ≡ length more) × Stored (set owners count u) (set words count c) more
+      go (e, s) = (omega (arith, more-length), λ i k. ⊎-elim (earlier i) (here i) (lt-suc-split (let z : i < suc (length l) = omega (arith, more-length) in z)))
+        where
+          earlier : (i : ℕ) → i < length l → getD more i noPlace ≡ Entry (getD (set owners count u) i 0) (getD (set words count c) i 0)
+          earlier i k = List·getD-append l (Entry u c ∷ []) noPlace i k ∙ s i k ∙ ap₂ Entry (sym (getD-set-other owners count i u 0 (λ q. omega arith))) (sym (getD-set-other words count i c 0 (λ q. omega arith)))
+
+          here : (i : ℕ) → i ≡ length l → getD more i noPlace ≡ Entry (getD (set owners count u) i 0) (getD (set words count c) i 0)
+          here i k =
+              ap (λ (j : ℕ). getD more j noPlace) k ∙ getD-append-seam l (Entry u c) [] noPlace
+              ∙ ap₂ Entry (sym (getD-set-same owners count u 0 (omega arith)) ∙ ap (λ (j : ℕ). getD (set owners count u) j 0) (e ∙ sym k)) (sym (getD-set-same words count c 0 (omega arith)) ∙ ap (λ (j : ℕ). getD (set words count c) j 0) (e ∙ sym k))
+
+  pub placing-more : Placing (set owners count u) (set words count c) more (count + 1)
+  placing-more = record {
+    exact = stored-more;
+    over = λ h. ⊎-elim (λ k. omega (arith, more-length, t .over k)) (λ k. omega (arith, more-length, t .exact k .0)) (lt-or-le 1024 count);
+  }
+
+-- none more, where more are known to be over
+pub placing-over : {owners words : List ℕ} {l m : List Place} {count : ℕ} → 1024 < count → length l ≤ length m → Placing owners words l count → Placing owners words m count
+placing-over h k t = record { exact = λ e. absurd (omega arith); over = λ e. omega (arith, t .over e) }
+
+pub placing-as : {owners owners′ words words′ : List ℕ} {l m : List Place} {count : ℕ} → owners′ ≡ owners → words′ ≡ words → l ≡ m → Placing owners words l count → Placing owners′ words′ m count
+placing-as {owners} {owners′} {words} {words′} {l} {m} {count} p q r t =
+    subst (λ (y : List ℕ). Placing y words′ m count) (sym p) (subst (λ (y : List ℕ). Placing owners y m count) (sym q) (subst (λ (y : List Place). Placing owners words y count) r t))
+
+-- ---- a reset word of a ROM more
+
+wordOf : Place → ℕ
+wordOf (Entry u c) = c
+wordOf (Reg x c p j) = 0
+
+has-none : (c : ℕ) (d : List ℕ) → ((j : ℕ) → j < length d → getD d j 0 ≡ c → ⊥) → has c d ≡ false
+has-none c [] h = refl
+has-none c (x ∷ d) h = rw (ne-eqb c x (λ e. h 0 (suc-le-suc zero-le) (sym e))) (has-none c d (λ j l. h (suc j) (suc-le-suc l)))
+
+has-some : (c : ℕ) (d : List ℕ) (j : ℕ) → j < length d → getD d j 0 ≡ c → has c d ≡ true
+has-some c d j h e = subst (λ (y : ℕ). has y d ≡ true) e (getD-has d j 0 h)
+
+add-none : (c : ℕ) (d : List ℕ) → has c d ≡ true → addNew c d ≡ d
+add-none c d e = rw e
+
+add-one : (c : ℕ) (d : List ℕ) → has c d ≡ false → addNew c d ≡ d ++ c ∷ []
+add-one c d e = rw e
+
+map-snoc : (u c : ℕ) (d : List ℕ) → map (Entry u) (d ++ c ∷ []) ≡ map (Entry u) d ++ Entry u c ∷ []
+map-snoc u c [] = refl
+map-snoc u c (x ∷ d) = ap (λ (l : List Place). Entry u x ∷ l) (map-snoc u c d)
+
+add-longer : (c : ℕ) (d : List ℕ) → length d ≤ length (addNew c d)
+add-longer c d = ⊎-elim (λ t. rw (add-none c d t) (le-refl _)) (λ t. rw (add-one c d t) (omega (arith, length-append d (c ∷ [])))) (true-or-false (has c d))
+
+module _ (pre : List Place) (u : ℕ) (d : List ℕ) where
+  abbrev so-far : List Place
+  so-far = pre ++ map (Entry u) d
+
+  so-far-length : length so-far ≡ length pre + length d
+  so-far-length = length-append pre (map (Entry u) d) ∙ ap (λ (k : ℕ). length pre + k) (length-map d (Entry u))
+
+  -- the words held from the first of them on
+  word-held : (owners words : List ℕ) → Stored owners words so-far → (j : ℕ) → j < length d → getD words (length pre + j) 0 ≡ getD d j 0
+  unfolding wordOf
+  word-held owners words s j h =
+      sym (ap wordOf (s (length pre + j) (omega (arith, so-far-length))))
+      ∙ ap wordOf (getD-append-add pre (map (Entry u) d) j noPlace ∙ getD-map-lt (Entry u) d j 0 noPlace h)
+
+  module _ {owners words : List ℕ} {c first count r : ℕ} (e : first ≡ length pre) (f : Finds words c first count r) (t : Placing owners words so-far count) where
+    -- the word is there already
+    pub copy-there : r < count → Placing owners words (pre ++ map (Entry u) (addNew c d)) count
+    copy-there h = ⊎-elim (λ o. placing-over o (omega (arith, so-far-length, longer)) t) there (lt-or-le 1024 count)
+      where
+        longer : length so-far ≤ length (pre ++ map (Entry u) (addNew c d))
+        longer = omega (arith, so-far-length, length-append pre (map (Entry u) (addNew c d)), length-map (addNew c d) (Entry u), add-longer c d)
+
+        there : count ≤ 1024 → Placing owners words (pre ++ map (Entry u) (addNew c d)) count
+        there o = go (t .exact o)
+          where
+            go : (count ≡ length so-far) × Stored owners words so-far → Placing owners words (pre ++ map (Entry u) (addNew c d)) count
+            go (n, s) =
+                let j : ℕ = r - first in
+                let at : length pre + j ≡ r = omega (arith, f .after) in
+                let l : j < length d = omega (arith, so-far-length, f .after) in
+                let has-it : has c d ≡ true = has-some c d j l (sym (word-held owners words s j l) ∙ ap (λ (k : ℕ). getD words k 0) at ∙ f .found h) in
+                placing-as refl refl (ap (λ (l : List ℕ). pre ++ map (Entry u) l) (sym (add-none c d has-it))) t
+
+    -- or it is added
+    module _ (a : 1024 ≤ length owners) (b : 1024 ≤ length words) where
+      pub copy-added : count ≤ r → Placing (set owners count u) (set words count c) (pre ++ map (Entry u) (addNew c d)) (count + 1)
+      copy-added h = ⊎-elim (λ o. record { exact = λ k. absurd (omega arith); over = λ k. omega (arith, t .over o, longer) }) added (lt-or-le 1024 count)
+        where
+          longer : length so-far ≤ length (pre ++ map (Entry u) (addNew c d))
+          longer = omega (arith, so-far-length, length-append pre (map (Entry u) (addNew c d)), length-map (addNew c d) (Entry u), add-longer c d)
+
+          added : count ≤ 1024 → Placing (set owners count u) (set words count c) (pre ++ map (Entry u) (addNew c d)) (count + 1)
+          added o = go (t .exact o)
+            where
+              go : (count ≡ length so-far) × Stored owners words so-far → Placing (set owners count u) (set words count c) (pre ++ map (Entry u) (addNew c d)) (count + 1)
+              go (n, s) =
+                  let new : has c d ≡ false = has-none c d (λ j l q. f .passed (length pre + j) (omega arith) (omega (arith, so-far-length)) (word-held owners words s j l ∙ q)) in
+                  placing-as refl refl
+                  (append-assoc pre (map (Entry u) d) (Entry u c ∷ []) ∙ ap (λ (l : List Place). pre ++ l) (sym (map-snoc u c d)) ∙ ap (λ (l : List ℕ). pre ++ map (Entry u) l) (sym (add-one c d new)))
+                  (placing-more t a b u c)
+
+-- ---- the wires one after the other
+
+distinct-append : (l xs ys : List ℕ) → distinctFrom l (xs ++ ys) ≡ distinctFrom (distinctFrom l xs) ys
+distinct-append l [] ys = refl
+distinct-append l (x ∷ xs) ys = distinct-append (addNew x l) xs ys
+
+module _ (ends copied : List ℕ) (u k : ℕ) where
+  wanted-next : wantedOf ends copied u (k + 1) ≡ wantedOf ends copied u k ++ only (eqb (getD ends k 0) u) (getD copied k 0)
+  wanted-next = concat-next (λ j. only (eqb (getD ends j 0) u) (getD copied j 0)) k
+
+  distinct-next : distinct (wantedOf ends copied u (k + 1)) ≡ distinctFrom (distinct (wantedOf ends copied u k)) (only (eqb (getD ends k 0) u) (getD copied k 0))
+  distinct-next = ap distinct wanted-next ∙ distinct-append [] (wantedOf ends copied u k) (only (eqb (getD ends k 0) u) (getD copied k 0))
+
+  pub wants-one : getD ends k 0 ≡ u → distinct (wantedOf ends copied u (k + 1)) ≡ addNew (getD copied k 0) (distinct (wantedOf ends copied u k))
+  wants-one e = distinct-next ∙ ap (λ (b : Bool). distinctFrom (distinct (wantedOf ends copied u k)) (only b (getD copied k 0))) (eq-eqb (getD ends k 0) u e)
+
+  pub wants-none : (getD ends k 0 ≡ u → ⊥) → distinct (wantedOf ends copied u (k + 1)) ≡ distinct (wantedOf ends copied u k)
+  wants-none e = distinct-next ∙ ap (λ (b : Bool). distinctFrom (distinct (wantedOf ends copied u k)) (only b (getD copied k 0))) (ne-eqb (getD ends k 0) u e)
+
+-- ---- the reset words of a ROM, by its wires in a row
+
+module _ {N : Net} {ends froms clocks : List ℕ} {limit : ℕ} (copied : List ℕ) (w : WiredTo N ends froms clocks limit (3 * size N)) (made : Copied N copied) (small : size N ≤ 1024) (u : ℕ) (inside : u < size N) where
+  abbrev f : ℕ → List ℕ
+  f = copiesOf N (timing N) (zeroWord N) u
+
+  abbrev h : ℕ → List ℕ
+  h k = only (eqb (getD ends k 0) u) (getD copied k 0)
+
+  -- a wire's word, and none where there is no wire
+  wire-wants : (x p : ℕ) → x < size N → p < 3 → p < wiresTo (elementAt N x) → h (3 * x + p) ≡ copiesAt N (timing N) (zeroWord N) u x p
+  unfolding copiesAt wireAt
+  wire-wants x p k l g =
+      let a : (3 * x + p) / 3 ≡ x = omega arith in
+      let b : (3 * x + p) % 3 ≡ p = omega arith in
+      let t : wireAt N (3 * x + p) ≡ true = ap₂ (λ (i j : ℕ). ltb i (wiresTo (elementAt N j))) b a ∙ lt-ltb p (wiresTo (elementAt N x)) g in
+      let e : getD ends (3 * x + p) 0 ≡ root N (source N x p) = w .wires (3 * x + p) (omega arith) t .end ∙ ap₂ (λ (i j : ℕ). root N (source N i j)) a b in
+      let d : getD copied (3 * x + p) 0 ≡ copyOn N (timing N) (zeroWord N) x p = made (3 * x + p) (omega arith) t ∙ ap₂ (copyOn N (timing N) (zeroWord N)) a b in
+      ap₂ (λ (i j : ℕ). only (eqb i u) j) e d
+
+  gap-wants : (x p : ℕ) → x < size N → p < 3 → wiresTo (elementAt N x) ≤ p → h (3 * x + p) ≡ []
+  unfolding wireAt
+  gap-wants x p k l g =
+      let a : (3 * x + p) / 3 ≡ x = omega arith in
+      let b : (3 * x + p) % 3 ≡ p = omega arith in
+      let t : wireAt N (3 * x + p) ≡ false = ap₂ (λ (i j : ℕ). ltb i (wiresTo (elementAt N j))) b a ∙ le-ltb p (wiresTo (elementAt N x)) g in
+      let e : getD ends (3 * x + p) 0 ≡ 65535 = w .gaps (3 * x + p) (omega arith) t .end in
+      ap (λ (z : Bool). only z (getD copied (3 * x + p) 0)) (ne-eqb (getD ends (3 * x + p) 0) u (λ q. omega arith))
+
+  row-wants : (x p : ℕ) → x < size N → p < 3 → h (3 * x + p) ≡ inRow (wiresTo (elementAt N x)) (copiesAt N (timing N) (zeroWord N) u x) p
+  row-wants x p k l =
+      ⊎-elim (λ g. wire-wants x p k l g ∙ sym (rw (lt-ltb p (wiresTo (elementAt N x)) g)))
+      (λ g. gap-wants x p k l g ∙ sym (rw (le-ltb p (wiresTo (elementAt N x)) g))) (lt-or-le p (wiresTo (elementAt N x)))
+
+  -- the wires to x: none where it is a register
+  copies-row : (x : ℕ) → f x ≡ concatMap (copiesAt N (timing N) (zeroWord N) u x) (below (wiresTo (elementAt N x)))
+  unfolding copiesOf stays timing timingBy
+  copies-row x = by-element (elementAt N x)
+    where
+      by-element : (e : Element) → cond (not (isRegister e) && true) (concatMap (copiesAt N (timing N) (zeroWord N) u x) (below (operands e))) [] ≡ concatMap (copiesAt N (timing N) (zeroWord N) u x) (below (wiresTo e))
+      by-element Input = refl
+      by-element Output = refl
+      by-element (Register r) = refl
+      by-element (Async m) = refl
+      by-element (Clocked m r) = refl
+      by-element (Gate o) = refl
+
+  pub all-wanted : concatMap (copiesOf N (timing N) (zeroWord N) u) (below (size N)) ≡ wantedOf ends copied u (3 * size N)
+  all-wanted = in-threes f h (size N) (λ x k.
+      let z : 3 * x ≡ 3 * x + 0 = omega arith in
+      copies-row x ∙ row-of-three (wiresTo (elementAt N x)) (copiesAt N (timing N) (zeroWord N) u x) (omega (arith, wires-few (elementAt N x), few-operands (elementAt N x)))
+      ∙ sym (ap₂ _++_ (ap₂ _++_ (ap h z ∙ row-wants x 0 k (omega arith)) (row-wants x 1 k (omega arith))) (row-wants x 2 k (omega arith))))
+
+-- ---- one node more
+
+module _ (N : Net) (u : ℕ) where
+  entries-next : entriesBefore N (u + 1) ≡ entriesBefore N u ++ map (Entry u) (copies N (timing N) (zeroWord N) u)
+  unfolding entriesBefore entriesOf
+  entries-next = concat-next (entriesOf N (timing N) (zeroWord N)) u
+
+  copies-by : {e : Element} → e ≡ elementAt N u → copies N (timing N) (zeroWord N) u ≡ cond (not (isRegister e) && true) (cond (isMemory e) (distinct (concatMap (copiesOf N (timing N) (zeroWord N) u) (below (size N)))) (0 ∷ [])) []
+  unfolding copies stays memoryAt timing timingBy
+  copies-by q = ap (λ (e : Element). cond (not (isRegister e) && true) (cond (isMemory e) (distinct (concatMap (copiesOf N (timing N) (zeroWord N) u) (below (size N)))) (0 ∷ [])) []) (sym q)
+
+  rom-stays : (e : Element) → isMemory e ≡ true → isRegister e ≡ false
+  rom-stays Input h = refl
+  rom-stays Output h = refl
+  rom-stays (Register r) h = absurd (false≢true h)
+  rom-stays (Async m) h = refl
+  rom-stays (Clocked m r) h = refl
+  rom-stays (Gate o) h = refl
+
+  module _ {e : Element} (q : e ≡ elementAt N u) where
+    pub entries-rom : isMemory e ≡ true → {l : List ℕ} → concatMap (copiesOf N (timing N) (zeroWord N) u) (below (size N)) ≡ l → entriesBefore N u ++ map (Entry u) (distinct l) ≡ entriesBefore N (u + 1)
+    entries-rom m {l} k =
+        let d : copies N (timing N) (zeroWord N) u ≡ distinct l = copies-by q ∙ rw (rom-stays e m, m) (ap distinct k) in
+        sym (entries-next ∙ ap (λ (d : List ℕ). entriesBefore N u ++ map (Entry u) d) d)
+
+    pub entries-plain : isMemory e ≡ false → isRegister e ≡ false → entriesBefore N u ++ Entry u 0 ∷ [] ≡ entriesBefore N (u + 1)
+    entries-plain m r =
+        let d : copies N (timing N) (zeroWord N) u ≡ 0 ∷ [] = copies-by q ∙ rw (r, m) in
+        sym (entries-next ∙ ap (λ (d : List ℕ). entriesBefore N u ++ map (Entry u) d) d)
+
+    pub entries-register : isRegister e ≡ true → entriesBefore N u ≡ entriesBefore N (u + 1)
+    entries-register r =
+        let d : copies N (timing N) (zeroWord N) u ≡ [] = copies-by q ∙ rw r in
+        sym (entries-next ∙ ap (λ (d : List ℕ). entriesBefore N u ++ map (Entry u) d) d ∙ append-nil (entriesBefore N u))
+
+-- ---- all nodes
+
+pub entries-all : (N : Net) → entriesBefore N (size N) ≡ entryPlaces N (timing N) (zeroWord N)
+unfolding entriesBefore entryPlaces
+entries-all N = refl
+
+longer-by : (N : Net) (u k : ℕ) → length (entriesBefore N u) ≤ length (entriesBefore N (u + k))
+unfolding entriesBefore
+longer-by N u zero = let e : u + 0 ≡ u = omega arith in rw e (le-refl _)
+longer-by N u (suc k) =
+    let e : u + suc k ≡ u + k + 1 = omega arith in
+    rw (e, concat-next (entriesOf N (timing N) (zeroWord N)) (u + k), length-append) (omega (arith, longer-by N u k))
+
+pub longer-after : (N : Net) (u v : ℕ) → u ≤ v → length (entriesBefore N u) ≤ length (entriesBefore N v)
+longer-after N u v h = let e : u + (v - u) ≡ v = omega arith in subst (λ (k : ℕ). length (entriesBefore N u) ≤ length (entriesBefore N k)) e (longer-by N u (v - u))
+
+module _ (N : Net) (firsts : List ℕ) {owners words : List ℕ} {u count : ℕ} (t : Placing owners words (entriesBefore N u) count) where
+  -- there are too many before the last node is reached
+  pub placed-over : u ≤ size N → 1024 < count → AllPlaced N owners words firsts count
+  placed-over h o = record { exact = λ e. absurd (omega arith); over = λ e. omega (arith, t .over e, longer-after N u (size N) h, ap length (entries-all N)) }
+
+  pub placed-all : u ≡ size N → (count ≤ 1024 → Firsts N firsts u) → AllPlaced N owners words firsts count
+  placed-all h s = record {
+    exact = λ e. let x = t .exact e in let l : entriesBefore N u ≡ entryPlaces N (timing N) (zeroWord N) = ap (entriesBefore N) h ∙ entries-all N in (x .0 ∙ ap length l, subst (Stored owners words) l (x .1), subst (Firsts N firsts) h (s e));
+    over = λ e. omega (arith, t .over e, ap length (ap (entriesBefore N) h ∙ entries-all N));
+  }
+
+  pub first-more : count ≤ 1024 → u < length firsts → Firsts N firsts u → Firsts N (set firsts u count) (u + 1)
+  first-more o k s v l =
+      ⊎-elim (λ a. getD-set-other firsts u v count 0 (λ q. omega arith) ∙ s v a)
+      (λ a. ap (λ (i : ℕ). getD (set firsts u count) i 0) a ∙ getD-set-same firsts u count 0 k ∙ t .exact o .0 ∙ ap (λ (i : ℕ). length (entriesBefore N i)) (sym a)) (lt-suc-split (let z : v < suc u = omega arith in z))
+
+pub placing-none : (N : Net) (owners words : List ℕ) → Placing owners words (entriesBefore N 0) 0
+unfolding entriesBefore
+placing-none N owners words = record { exact = λ e. (refl, λ i k. absurd (not-suc-le-zero k)); over = λ e. absurd (omega arith) }
+
+-- ---- the wires that want a word of a ROM, one after the other
+
+module _ {u first : ℕ} {ends copied owners₀ words₀ : List ℕ} where
+  pub adds-none : AddsAll u first 0 first ends copied owners₀ words₀ owners₀ words₀
+  adds-none = record { little = omega arith; adds = λ pre e t. placing-as refl refl (sym (append-nil pre)) t }
+
+  module _ {owners words : List ℕ} {k count : ℕ} (t : AddsAll u first k count ends copied owners₀ words₀ owners words) where
+    pub adds-skip : (getD ends k 0 ≡ u → ⊥) → AddsAll u first (k + 1) count ends copied owners₀ words₀ owners words
+    adds-skip h = record {
+      little = omega (arith, t .little);
+      adds = λ pre e s. placing-as refl refl (ap (λ (l : List ℕ). pre ++ map (Entry u) l) (sym (wants-none ends copied u k h))) (t .adds pre e s);
+    }
+
+    pub adds-more : {owners′ words′ : List ℕ} {c r : ℕ} → getD ends k 0 ≡ u → c ≡ getD copied k 0 → Adds u c first count r owners words owners′ words′ → AddsAll u first (k + 1) r ends copied owners₀ words₀ owners′ words′
+    adds-more h e a = record {
+      little = omega (arith, t .little, a .little);
+      adds = λ pre q s. placing-as refl refl (ap (λ (l : List ℕ). pre ++ map (Entry u) l) (ap (λ (y : ℕ). addNew y (distinct (wantedOf ends copied u k))) e ∙ sym (wants-one ends copied u k h))) (a .adds pre (distinct (wantedOf ends copied u k)) q (t .adds pre q s));
+    }
+
+-- the entries of a ROM are those that its wires want
+pub rom-placed : (N : Net) {u k count r : ℕ} {e : Element} {ends copied owners words owners′ words′ : List ℕ} → u < size N → e ≡ elementAt N u → isMemory e ≡ true → Wants N ends copied → k ≡ 3 * size N
+    → count ≤ 1024 → Placing owners words (entriesBefore N u) count → AddsAll u count k r ends copied owners words owners′ words′ → Placing owners′ words′ (entriesBefore N (u + 1)) r
+rom-placed N {u} {k} {ends = ends} {copied = copied} h q m w z o t a =
+    placing-as refl refl (entries-rom N u q m (w u h ∙ ap (wantedOf ends copied u) (sym z))) (a .adds (entriesBefore N u) (t .exact o .0) t)
+
+-- ---- as the code reads a node
+
+pub element-of : (N : Net) (u : ℕ) {y : Node} → y ≡ nodeAt N u → y .element ≡ elementAt N u
+unfolding elementAt
+element-of N u e = ap (λ (y : Node). y .element) e
+
+pub bit-true : {b : Bool} → one b ≡ 1 → b ≡ true
+bit-true {b = true} e = refl
+bit-true {b = false} e = absurd (omega arith)
+
+pub bit-false : {b : Bool} → (one b ≡ 1 → ⊥) → b ≡ false
+bit-false {b = true} h = absurd (h refl)
+bit-false {b = false} h = refl
+
+pub firsts-as : (N : Net) {firsts firsts′ : List ℕ} {u : ℕ} → firsts′ ≡ firsts → Firsts N firsts u → Firsts N firsts′ u
+firsts-as N {u = u} e t = subst (λ (l : List ℕ). Firsts N l u) (sym e) t

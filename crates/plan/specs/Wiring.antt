@@ -1,0 +1,83 @@
+-- The wires of a netlist in a row: wire k is the one to operand k % 3 of node k / 3, where there is one. Assumes nothing.
+use mathlib.Core.Path.{_≡_, refl}
+use mathlib.Core.Bool.{Bool, true, false}
+use mathlib.Core.List.{List}
+use Prim.Native.Nat.{ℕ, _+_, _-_, _*_, _/_, _%_, _≤_, _<_}
+use lib.ListN.{getD}
+use lib.Dec.{ltb}
+use Rattle.lists.specs.Lists.{one}
+use Rattle.words.specs.Gates.{operandsOf}
+use Rattle.netlist.specs.declared.Element.{Element}
+use Rattle.netlist.specs.declared.Element.the-variants.{Input, Output, Register, Async, Clocked, Gate}
+use Rattle.netlist.specs.Net.{Net, size, elementAt, source}
+use Rattle.netlist.specs.Checks.{WellFormed}
+use Rattle.behaviour.specs.Run.{zeroWord}
+use Rattle.retiming.specs.Leads.{lead, closedDebt}
+use Rattle.retiming.specs.Rewrite.{root, passed, ownHere, memoryAt, oldOn, registersOn, countOn, copyOn, timing, timingBy}
+use Rattle.leads.specs.Settled.{LeadsIn}
+use Rattle.wires.specs.Traced.{AllTraced}
+
+-- what the rewriter knows of a netlist before it plans: 6 to 11 are passed, and three work areas hold the leads and where the wires come from
+pub record Ready (N : Net) (leads roots passes : List ℕ) : Type 0 where
+  pub formed : WellFormed N
+  pub debtless : closedDebt N ≡ false
+  pub leads-in : LeadsIn N leads
+  pub traced : AllTraced N roots passes
+
+-- how many registers stand as nodes of their own on the wire from s to x, in the rewritten netlist
+unfoldable pub countFrom : Net → ℕ → ℕ → ℕ
+countFrom N x s = ((passed N s + ownHere N (root N s) + lead N (root N s)) - lead N x) - one (memoryAt N (root N s))
+
+pub count-from : (N : Net) (x p : ℕ) → countOn N (timing N) (zeroWord N) x p ≡ countFrom N x (source N x p)
+unfolding countOn registersOn oldOn countFrom timing timingBy lead
+count-from N x p = refl
+
+-- how many wires end at a node: none at a register
+abbrev pub wiresTo : Element → ℕ
+wiresTo Input = 0
+wiresTo Output = 1
+wiresTo (Register r) = 0
+wiresTo (Async m) = 1
+wiresTo (Clocked m r) = 1
+wiresTo (Gate o) = operandsOf o
+
+module _ (N : Net) where
+  -- the reader and the source of wire k
+  abbrev pub readerOf : ℕ → ℕ
+  readerOf k = k / 3
+
+  abbrev pub sourceOf : ℕ → ℕ
+  sourceOf k = source N (k / 3) (k % 3)
+
+  -- there is a wire k
+  unfoldable pub wireAt : ℕ → Bool
+  wireAt k = ltb (k % 3) (wiresTo (elementAt N (k / 3)))
+
+  -- the clock at which the register nearest its root, counted as one more, would have its reset word from
+  unfoldable pub lastClock : ℕ → ℕ
+  lastClock k = countFrom N (readerOf k) (sourceOf k) + lead N (readerOf k)
+
+  module _ (ends froms clocks : List ℕ) (limit : ℕ) where
+    -- what three work areas hold of a wire: its root, its source, and where the root is a ROM the clock of its reset word; no clock asked for is beyond the limit
+    pub record Wired (k : ℕ) : Type 0 where
+      pub end : getD ends k 0 ≡ root N (sourceOf k)
+      pub from : getD froms k 0 ≡ sourceOf k
+      pub early : lastClock k < limit
+      pub rom : memoryAt N (root N (sourceOf k)) ≡ true → getD clocks k 0 ≡ lastClock k
+      pub other : memoryAt N (root N (sourceOf k)) ≡ false → getD clocks k 0 ≡ 65535
+
+    -- and where there is none
+    pub record Unwired (k : ℕ) : Type 0 where
+      pub end : getD ends k 0 ≡ 65535
+      pub never : getD clocks k 0 ≡ 65535
+
+    -- the first k are entered
+    pub record WiredTo (k : ℕ) : Type 0 where
+      pub few : limit ≤ 65535
+      pub wires : (j : ℕ) → j < k → wireAt j ≡ true → Wired j
+      pub gaps : (j : ℕ) → j < k → wireAt j ≡ false → Unwired j
+      pub ahead : (j : ℕ) → k ≤ j → j < 3072 → Unwired j
+
+  -- a work area has the reset word that each wire's root needs for it
+  abbrev pub Copied : List ℕ → Type 0
+  Copied copied = (k : ℕ) → k < 3 * size N → wireAt k ≡ true → getD copied k 0 ≡ copyOn N (timing N) (zeroWord N) (k / 3) (k % 3)

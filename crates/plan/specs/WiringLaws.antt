@@ -1,0 +1,179 @@
+-- Wires counted and entered, over plain values. Assumes nothing.
+use mathlib.Core.Path.{_≡_, refl, sym, ap, ap₂, subst, _∙_}
+use mathlib.Core.Logic.{_⊎_, inl, inr, ⊎-elim}
+use mathlib.Core.Bool.{Bool, true, false, cond, true≢false}
+use mathlib.Core.List.{List}
+use Prim.Native.Nat.{ℕ, suc, _+_, _-_, _*_, _/_, _%_, _≤_, _<_, max}
+use native.Mathlib.Nat.{max-le, le-refl}
+use native.Mathlib.Omega.{arith}
+use lib.ListN.{length, getD, set, replicate, getD-replicate}
+use lib.Seq.{getD-set-same, getD-set-other}
+use lib.Dec.{ltb}
+use borrow.Author.Tests.{lt-ltb, le-ltb, ltb-true}
+use Rattle.lists.specs.Lists.{one, countBelow}
+use Rattle.lists.specs.BelowLaws.{lt-suc-split, countBelow-le, true-or-false}
+use Rattle.netlist.specs.declared.Element.{Element}
+use Rattle.netlist.specs.declared.Element.the-variants.{Input, Output, Register, Async, Clocked, Gate}
+use Rattle.netlist.specs.declared.Node.{Node}
+use Rattle.netlist.specs.Net.{Net, size, nodeAt, elementAt, source, operands, isAsync, isMemory, isClocked, Sourced}
+use Rattle.netlist.specs.NodeLaws.{few-operands}
+use Rattle.retiming.specs.Leads.{lead}
+use Rattle.retiming.specs.AtMostRoms.{romCount, lead-at-most-roms}
+use Rattle.retiming.specs.Rewrite.{root, passed, ownHere, memoryAt}
+use Rattle.retiming.specs.Wires.{root-within}
+use Rattle.wires.specs.TracedLaws.{passed-few}
+use Rattle.plan.specs.Wiring.{Ready, countFrom, wiresTo, readerOf, sourceOf, wireAt, lastClock, Wired, Unwired, WiredTo}
+
+pub wires-few : (e : Element) → wiresTo e ≤ operands e
+wires-few Input = omega arith
+wires-few Output = omega arith
+wires-few (Register r) = omega arith
+wires-few (Async m) = le-refl _
+wires-few (Clocked m r) = le-refl _
+wires-few (Gate o) = le-refl _
+
+one-few : (b : Bool) → one b ≤ 1
+one-few true = omega arith
+one-few false = omega arith
+
+module _ {N : Net} {leads roots passes : List ℕ} (t : Ready N leads roots passes) where
+  -- the leads in the work area are small
+  pub lead-few : (v : ℕ) → v < size N → getD leads v 0 ≤ 1024
+  unfolding romCount
+  lead-few v h =
+      omega (arith, t .leads-in v h, lead-at-most-roms N (t .formed .sourced) (t .debtless) v h, countBelow-le (λ u. isAsync (elementAt N u)) (size N), t .formed .fields .bounds .nodes)
+
+  module _ {s u : ℕ} (h : s < size N) (e : u ≡ getD roots s 0) where
+    pub is-root : u ≡ root N s
+    is-root = e ∙ t .traced s h .from
+
+    pub root-inside : u < size N
+    root-inside = omega (arith, is-root, root-within N (t .formed .sourced) s h)
+
+    pub passed-small : getD passes s 0 ≤ 1024
+    passed-small = omega (arith, t .traced s h .through, passed-few N s, t .formed .fields .bounds .nodes)
+
+    -- the registers on a wire, from what the work areas hold
+    module _ {x : ℕ} (k : x < size N) {y : Node} (is : y ≡ nodeAt N u) where
+      pub counted : ((getD passes s 0 + one (isClocked (y .element)) + getD leads u 0) - getD leads x 0) - one (isMemory (y .element)) ≡ countFrom N x s
+      unfolding countFrom ownHere memoryAt elementAt
+      counted =
+          let p = t .traced s h .through in
+          let l = t .leads-in u root-inside ∙ ap (lead N) is-root in
+          let o : one (isClocked (y .element)) ≡ one (isClocked (nodeAt N (root N s) .element)) = ap (λ (z : Node). one (isClocked (z .element))) is ∙ ap (λ (v : ℕ). one (isClocked (nodeAt N v .element))) is-root in
+          let m : one (isMemory (y .element)) ≡ one (isMemory (nodeAt N (root N s) .element)) = ap (λ (z : Node). one (isMemory (z .element))) is ∙ ap (λ (v : ℕ). one (isMemory (nodeAt N v .element))) is-root in
+          omega (arith, t .leads-in x k)
+
+      pub count-few : ((getD passes s 0 + one (isClocked (y .element)) + getD leads u 0) - getD leads x 0) - one (isMemory (y .element)) ≤ 2049
+      count-few = omega (arith, passed-small, lead-few u root-inside, one-few (isClocked (y .element)))
+
+-- ---- one wire more
+
+module _ {N : Net} {ends froms clocks : List ℕ} {limit k : ℕ} (w : WiredTo N ends froms clocks limit k) where
+  -- there is none
+  pub wired-gap : k < 3072 → wireAt N k ≡ false → WiredTo N ends froms clocks limit (k + 1)
+  wired-gap h e = record {
+    few = w .few;
+    wires = λ j l g. ⊎-elim (λ a. w .wires j a g) (λ a. absurd (true≢false (sym g ∙ ap (wireAt N) a ∙ e))) (lt-suc-split (let b : j < suc k = omega arith in b));
+    gaps = λ j l g. ⊎-elim (λ a. w .gaps j a g) (λ a. w .ahead j (omega arith) (omega arith)) (lt-suc-split (let b : j < suc k = omega arith in b));
+    ahead = λ j l m. w .ahead j (omega arith) m;
+  }
+
+  module _ (a : length ends ≡ 3072) (b : length froms ≡ 3072) (d : length clocks ≡ 3072) (h : k < 3072) {end from clock at : ℕ} (g : wireAt N k ≡ true)
+      (e : end ≡ root N (sourceOf N k)) (f : from ≡ sourceOf N k) (c : clock ≡ lastClock N k) (small : clock < 65535)
+      (r : at ≡ cond (memoryAt N (root N (sourceOf N k))) clock 65535) where
+    abbrev ends′ : List ℕ
+    ends′ = set ends k end
+
+    abbrev froms′ : List ℕ
+    froms′ = set froms k from
+
+    abbrev clocks′ : List ℕ
+    clocks′ = set clocks k at
+
+    abbrev limit′ : ℕ
+    limit′ = max limit (clock + 1)
+
+    here : Wired N ends′ froms′ clocks′ limit′ k
+    here = record {
+      end = getD-set-same ends k end 0 (omega arith) ∙ e;
+      from = getD-set-same froms k from 0 (omega arith) ∙ f;
+      early = omega (arith, c);
+      rom = λ m. getD-set-same clocks k at 0 (omega arith) ∙ r ∙ ap (λ (z : Bool). cond z clock 65535) m ∙ c;
+      other = λ m. getD-set-same clocks k at 0 (omega arith) ∙ r ∙ ap (λ (z : Bool). cond z clock 65535) m;
+    }
+
+    still : (j : ℕ) → j < k → Wired N ends froms clocks limit j → Wired N ends′ froms′ clocks′ limit′ j
+    still j l y = record {
+      end = getD-set-other ends k j end 0 (λ q. omega arith) ∙ y .end;
+      from = getD-set-other froms k j from 0 (λ q. omega arith) ∙ y .from;
+      early = omega (arith, y .early);
+      rom = λ m. getD-set-other clocks k j at 0 (λ q. omega arith) ∙ y .rom m;
+      other = λ m. getD-set-other clocks k j at 0 (λ q. omega arith) ∙ y .other m;
+    }
+
+    none : (j : ℕ) → (j ≡ k → ⊥) → Unwired N ends froms clocks limit j → Unwired N ends′ froms′ clocks′ limit′ j
+    none j l y = record {
+      end = getD-set-other ends k j end 0 l ∙ y .end;
+      never = getD-set-other clocks k j at 0 l ∙ y .never;
+    }
+
+    pub wired-more : WiredTo N ends′ froms′ clocks′ limit′ (k + 1)
+    wired-more = record {
+      few = max-le (w .few) (omega arith);
+      wires = λ j l q. ⊎-elim (λ y. still j y (w .wires j y q)) (λ y. subst (Wired N ends′ froms′ clocks′ limit′) (sym y) here) (lt-suc-split (let z : j < suc k = omega arith in z));
+      gaps = λ j l q. ⊎-elim (λ y. none j (λ z. omega arith) (w .gaps j y q)) (λ y. absurd (true≢false (sym g ∙ ap (wireAt N) (sym y) ∙ q))) (lt-suc-split (let z : j < suc k = omega arith in z));
+      ahead = λ j l m. none j (λ z. omega arith) (w .ahead j (omega arith) m);
+    }
+
+-- the same of equal work areas
+pub wired-as : {N : Net} {e e′ f f′ c c′ : List ℕ} {l l′ k : ℕ} → e′ ≡ e → f′ ≡ f → c′ ≡ c → l′ ≡ l → WiredTo N e f c l k → WiredTo N e′ f′ c′ l′ k
+wired-as {N} {e} {e′} {f} {f′} {c} {c′} {l} {l′} {k} p q r s w =
+    subst (λ (y : List ℕ). WiredTo N y f′ c′ l′ k) (sym p) (subst (λ (y : List ℕ). WiredTo N e y c′ l′ k) (sym q) (subst (λ (y : List ℕ). WiredTo N e f y l′ k) (sym r) (subst (λ (y : ℕ). WiredTo N e f c y k) (sym s) w)))
+
+-- at first there is none
+pub wired-none : (N : Net) (froms : List ℕ) → WiredTo N (replicate 3072 65535) froms (replicate 3072 65535) 0 0
+wired-none N froms = record {
+  few = omega arith;
+  wires = λ j l g. absurd (omega arith);
+  gaps = λ j l g. absurd (omega arith);
+  ahead = λ j l m. record { end = getD-replicate 3072 j 65535 0 m; never = getD-replicate 3072 j 65535 0 m };
+}
+
+-- ---- wire k as the code reads it
+
+module _ (N : Net) (k : ℕ) {y : Node} (is : y ≡ nodeAt N (k / 3)) where
+  wires-at : wiresTo (y .element) ≡ wiresTo (elementAt N (k / 3))
+  unfolding elementAt
+  wires-at = ap (λ (z : Node). wiresTo (z .element)) is
+
+  pub wire-there : k % 3 < wiresTo (y .element) → wireAt N k ≡ true
+  unfolding wireAt
+  wire-there h = lt-ltb (k % 3) (wiresTo (elementAt N (k / 3))) (omega (arith, wires-at))
+
+  pub wire-missing : wiresTo (y .element) ≤ k % 3 → wireAt N k ≡ false
+  unfolding wireAt
+  wire-missing h = le-ltb (k % 3) (wiresTo (elementAt N (k / 3))) (omega (arith, wires-at))
+
+  pub wire-source : getD (y .sources) (k % 3) 0 ≡ sourceOf N k
+  unfolding source
+  wire-source = ap (λ (z : Node). getD (z .sources) (k % 3) 0) is
+
+-- a wire ends at an operand
+pub wire-operand : (N : Net) (k : ℕ) → wireAt N k ≡ true → k % 3 < operands (elementAt N (k / 3))
+unfolding wireAt
+wire-operand N k e = omega (arith, ltb-true (k % 3) (wiresTo (elementAt N (k / 3))) e, wires-few (elementAt N (k / 3)))
+
+-- and its source is a node
+pub wire-inside : (N : Net) → Sourced N → (k : ℕ) → k < 3 * size N → wireAt N k ≡ true → sourceOf N k < size N
+unfolding Sourced
+wire-inside N sourced k h e = sourced (k / 3) (k % 3) (omega arith) (wire-operand N k e)
+
+-- the root of a wire as the code reads it
+pub rom-at : (N : Net) (u v : ℕ) {y : Node} (clock : ℕ) → y ≡ nodeAt N u → u ≡ v → cond (isMemory (y .element)) clock 65535 ≡ cond (memoryAt N v) clock 65535
+unfolding memoryAt elementAt
+rom-at N u v clock is e = ap (λ (z : Node). cond (isMemory (z .element)) clock 65535) is ∙ ap (λ (x : ℕ). cond (isMemory (nodeAt N x .element)) clock 65535) e
+
+pub last-is : (N : Net) (k : ℕ) {clock count l s : ℕ} → clock ≡ count + l → count ≡ countFrom N (k / 3) s → l ≡ lead N (k / 3) → s ≡ sourceOf N k → clock ≡ lastClock N k
+unfolding lastClock
+last-is N k a b c d = a ∙ ap₂ _+_ (b ∙ ap (countFrom N (k / 3)) d) c

@@ -1,0 +1,157 @@
+// The nodes of the rewritten netlist that are no registers, in the file's order: an old node that is no register once, a ROM once for each different reset word.
+use super::wiring::memory_bit;
+use index::node;
+use netlist::Element;
+use order::number_at;
+use order::put_number;
+ghost use mathlib.Core.Path.{_≡_};
+ghost use Prim.Native.Nat.{_+_, _<_, _≤_};
+ghost use lib.ListN.{length};
+ghost use Rattle.lists.specs.Lists.{one};
+ghost use Rattle.netlist.specs.Net.{isRegister};
+ghost use Rattle.netlist.specs.ScanLaws.{Found};
+ghost use Rattle.netlist.specs.File.{netIn};
+ghost use Rattle.plan.specs.Entries.{Finds, Placing, Adds, Wants, AddsAll, entriesBefore, AllPlaced};
+
+// The first place from one on that has the word; where none up to another has it, that one.
+pub fn find_from(words: &[u16], c: u16, from: usize, to: usize) -> usize
+    requires { ⌜ from ≤ to ⌝ }
+    ensures { λ r. ⌜ Finds (now (words .entry)) c from to r ⌝ }
+{
+    let mut i = from;
+    while i < to {
+        if number_at(words, i) == c {
+            return i;
+        }
+        i = i + 1;
+    }
+    i
+}
+
+// Adds the entry of ROM u with reset word c, unless there is one: its entries begin at `first`.
+fn add_copy(
+    u: u16,
+    c: u16,
+    first: usize,
+    count: usize,
+    owners: &mut [u16],
+    words: &mut [u16],
+) -> usize
+    requires { ⌜ (first ≤ count) × (count ≤ 65535) × (1024 ≤ length (now owners)) × (1024 ≤ length (now words)) ⌝ }
+    ensures { λ r. ⌜ Adds u c first count r (now (owners .entry)) (now (words .entry)) (now (owners .exit)) (now (words .exit)) ⌝ }
+{
+    let at = find_from(words, c, first, count);
+    if at < count {
+        count
+    } else {
+        put_number(owners, count, u);
+        put_number(words, count, c);
+        count + 1
+    }
+}
+
+// Adds the entries of ROM u: one for each different word that its wires want.
+fn add_copies(
+    ends: &[u16],
+    copied: &[u16],
+    wires: usize,
+    u: u16,
+    first: usize,
+    owners: &mut [u16],
+    words: &mut [u16],
+) -> usize
+    requires { ⌜ (first ≤ 1024) × (wires ≤ 3072) × (1024 ≤ length (now owners)) × (1024 ≤ length (now words)) ⌝ }
+    ensures { λ r. ⌜ AddsAll u first wires r (now (ends .entry)) (now (copied .entry)) (now (owners .entry)) (now (words .entry)) (now (owners .exit)) (now (words .exit)) ⌝ }
+{
+    let mut count = first;
+    let mut k: usize = 0;
+    while k < wires {
+        if number_at(ends, k) == u {
+            count = add_copy(u, number_at(copied, k), first, count, owners, words);
+            k = k + 1;
+        } else {
+            k = k + 1;
+        }
+    }
+    count
+}
+
+// 1 for a register.
+fn register_bit(e: Element) -> usize
+    ensures { λ r. ⌜ r ≡ one (isRegister e) ⌝ }
+{
+    match e {
+        Element::Input => 0,
+        Element::Output => 0,
+        Element::Register(_) => 1,
+        Element::Async(_) => 0,
+        Element::Clocked(_, _) => 0,
+        Element::Gate(_) => 0,
+    }
+}
+
+// Adds the entries of node u.
+fn place(
+    file: &[u8],
+    tables: &[u16],
+    nodes: &[u16],
+    ends: &[u16],
+    copied: &[u16],
+    u: usize,
+    count: usize,
+    owners: &mut [u16],
+    words: &mut [u16],
+) -> usize
+    requires { ⌜ Found (now file) (now tables) (now nodes) × (u < length (now nodes)) × (count ≤ 1024) × (1024 ≤ length (now owners)) × (1024 ≤ length (now words))
+        × Wants (netIn (now file) (now tables) (now nodes)) (now ends) (now copied)
+        × Placing (now owners) (now words) (entriesBefore (netIn (now file) (now tables) (now nodes)) u) count ⌝ }
+    ensures { λ r. ⌜ Placing (now (owners .exit)) (now (words .exit)) (entriesBefore (netIn (now (file .entry)) (now (tables .entry)) (now (nodes .entry))) (u + 1)) r × (r ≤ 4096) ⌝ }
+{
+    let x = node(file, tables, nodes, u);
+    let e = x.element;
+    if memory_bit(e) == 1 {
+        return add_copies(
+            ends,
+            copied,
+            3 * nodes.len(),
+            u as u16,
+            count,
+            owners,
+            words,
+        );
+    }
+    if register_bit(e) == 1 {
+        return count;
+    }
+    put_number(owners, count, u as u16);
+    put_number(words, count, 0);
+    count + 1
+}
+
+// Adds the entries of all nodes, and keeps where those of each begin. It gives up where there are more than 1,024.
+pub fn place_entries(
+    file: &[u8],
+    tables: &[u16],
+    nodes: &[u16],
+    ends: &[u16],
+    copied: &[u16],
+    firsts: &mut [u16],
+    owners: &mut [u16],
+    words: &mut [u16],
+) -> usize
+    requires { ⌜ Found (now file) (now tables) (now nodes) × (length (now firsts) ≡ 1024) × (1024 ≤ length (now owners)) × (1024 ≤ length (now words))
+        × Wants (netIn (now file) (now tables) (now nodes)) (now ends) (now copied) ⌝ }
+    ensures { λ r. ⌜ AllPlaced (netIn (now (file .entry)) (now (tables .entry)) (now (nodes .entry))) (now (owners .exit)) (now (words .exit)) (now (firsts .exit)) r ⌝ }
+{
+    let mut count: usize = 0;
+    let mut u: usize = 0;
+    while u < nodes.len() {
+        if 1024 < count {
+            return count;
+        }
+        put_number(firsts, u, count as u16);
+        count = place(file, tables, nodes, ends, copied, u, count, owners, words);
+        u = u + 1;
+    }
+    count
+}
