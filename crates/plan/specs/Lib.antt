@@ -5,3 +5,5 @@ pub mod Entries
 pub mod EntriesLaws
 pub mod Registers
 pub mod RegistersLaws
+pub mod Plan
+pub mod PlanLaws

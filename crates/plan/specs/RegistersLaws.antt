@@ -198,7 +198,7 @@ module _ (N : Net) (owners words : List ℕ) (held : Stored owners words (entryP
       let e : getD (places N (timing N) (zeroWord N)) i noPlace ≡ Entry (getD owners i 0) (getD words i 0) = List·getD-append (entryPlaces N (timing N) (zeroWord N)) (regPlaces N (timing N) (zeroWord N)) noPlace i h ∙ held i h in
       subst (Sound N (timing N) (zeroWord N)) e (places-sound N (timing N) (zeroWord N) i (omega (arith, length-append (entryPlaces N (timing N) (zeroWord N)) (regPlaces N (timing N) (zeroWord N)))))
 
-wires-all : (e : Element) → isRegister e ≡ false → wiresTo e ≡ operands e
+pub wires-all : (e : Element) → isRegister e ≡ false → wiresTo e ≡ operands e
 wires-all Input h = refl
 wires-all Output h = refl
 wires-all (Register r) h = absurd (true≢false h)

@@ -1,4 +1,109 @@
-// Where everything goes in the rewritten netlist.
+// Where everything goes in the rewritten netlist, and with which reset words: document 01, "Leads and the rewritten file".
 mod entries;
 mod registers;
 mod wiring;
+
+use entries::place_entries;
+use first_clocks::first_words;
+use registers::lay_wires;
+use wiring::enter_wires;
+ghost use mathlib.Core.Path.{_≡_};
+ghost use lib.ListN.{length};
+ghost use Rattle.netlist.specs.Net.{inClock};
+ghost use Rattle.netlist.specs.ScanLaws.{Found};
+ghost use Rattle.netlist.specs.File.{netIn};
+ghost use Rattle.order.specs.Order.{Complete};
+ghost use Rattle.plan.specs.Wiring.{Ready};
+ghost use Rattle.plan.specs.Plan.{PlanMade};
+
+// How many nodes come before the registers, and how many there are.
+pub struct Plan {
+    pub entries: usize,
+    pub total: usize,
+}
+
+// Plans the rewritten netlist: for each of its nodes the old node whose width it has, its reset word, and what it reads, three places to a node.
+// Where it has more than 1,024 nodes nothing is said of the work areas.
+pub fn make_plan(
+    file: &[u8],
+    tables: &[u16],
+    nodes: &[u16],
+    order: &[u16],
+    leads: &[u16],
+    roots: &[u16],
+    passes: &[u16],
+    owners: &mut [u16],
+    words: &mut [u16],
+    sources: &mut [u16],
+) -> Plan
+    requires { ⌜ Found (now file) (now tables) (now nodes) × Ready (netIn (now file) (now tables) (now nodes)) (now leads) (now roots) (now passes)
+        × Complete inClock (netIn (now file) (now tables) (now nodes)) (now order)
+        × (length (now owners) ≡ 1024) × (length (now words) ≡ 1024) × (length (now sources) ≡ 3072) ⌝ }
+    ensures { λ r. ⌜ PlanMade (netIn (now (file .entry)) (now (tables .entry)) (now (nodes .entry))) (now (owners .exit)) (now (words .exit)) (now (sources .exit)) (r .entries) (r .total) ⌝ }
+{
+    let mut ends = [65535u16; 3072];
+    let mut froms = [0u16; 3072];
+    let mut clocks = [65535u16; 3072];
+    let mut copied = [0u16; 3072];
+    let mut firsts = [0u16; 1024];
+    let limit = enter_wires(
+        file,
+        tables,
+        nodes,
+        leads,
+        roots,
+        passes,
+        &mut ends,
+        &mut froms,
+        &mut clocks,
+    );
+    first_words(
+        file,
+        tables,
+        nodes,
+        order,
+        limit,
+        &clocks,
+        &froms,
+        &mut copied,
+    );
+    let entries = place_entries(
+        file,
+        tables,
+        nodes,
+        &ends,
+        &copied,
+        &mut firsts,
+        owners,
+        words,
+    );
+    if 1024 < entries {
+        return Plan {
+            entries,
+            total: entries,
+        };
+    }
+    let mut late = [65535u16; 1024];
+    let total = lay_wires(
+        file,
+        tables,
+        nodes,
+        leads,
+        roots,
+        passes,
+        &ends,
+        &froms,
+        &copied,
+        &firsts,
+        entries,
+        owners,
+        words,
+        &mut late,
+        sources,
+    );
+    if 1024 < total {
+        return Plan { entries, total };
+    }
+    first_words(file, tables, nodes, order, limit, &late, owners, words);
+    Plan { entries, total }
+}

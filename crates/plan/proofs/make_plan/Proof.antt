@@ -1,0 +1,162 @@
+-- The steps one after the other.
+use mathlib.Core.Path.{_≡_, refl, sym, _∙_}
+use Prim.Native.Nat.{ℕ}
+use native.Mathlib.Omega.{arith}
+use lib.ListN.{length-replicate}
+use borrow.Author.Needs.{needs}
+use Rattle.netlist.specs.File.{netIn}
+use Rattle.netlist.specs.FileLaws.{size-in}
+use Rattle.plan.specs.WiringLaws.{wired-none}
+use Rattle.plan.specs.PlanLaws.{wired-whole, wires-of-nodes, wants-taken, entries-are, planning, laid-first, registers-of-nodes, plan-made, many-entries, many-registers}
+use Rattle.plan.proofs.make_plan.Statement.{statement}
+use Rattle.plan.proofs.make_plan.Tie as tie
+
+slice-aggregate-enter-wires : tie.Need-slice-aggregate-enter-wires
+slice-aggregate-enter-wires c = search needs
+
+slice-aggregate-enter-wires-2 : tie.Need-slice-aggregate-enter-wires-2
+slice-aggregate-enter-wires-2 c = search needs
+
+slice-aggregate-enter-wires-3 : tie.Need-slice-aggregate-enter-wires-3
+slice-aggregate-enter-wires-3 c = search needs
+
+enter-wires-requires : tie.Need-enter-wires-requires
+enter-wires-requires c κs = (c .before .before .before .before .before .before .before .before .before .before .before .before .before .pre .0, c .before .before .before .before .before .before .before .before .before .before .before .before .before .pre .1, length-replicate {A = ℕ} 3072 65535, length-replicate {A = ℕ} 3072 0, length-replicate {A = ℕ} 3072 65535, wired-none _ _)
+
+slice-aggregate-first-words : tie.Need-slice-aggregate-first-words
+slice-aggregate-first-words c = search needs
+
+slice-aggregate-first-words-2 : tie.Need-slice-aggregate-first-words-2
+slice-aggregate-first-words-2 c = search needs
+
+slice-aggregate-first-words-3 : tie.Need-slice-aggregate-first-words-3
+slice-aggregate-first-words-3 c = search needs
+
+first-words-requires : tie.Need-first-words-requires
+first-words-requires c κs = let a = c .before .before .before .before .before .before .before .before .before .before .before .before .before .before .before .before .before .before .before .before .args in
+    let z = size-in (a .file .now) (a .tables .now) (a .nodes .now) in
+    let w = wired-whole (sym z) (c .before .before .before .before .before .before .enter-wires .ensures) in
+    let l = c .before .before .before .before .before .before .enter-wires .kept  .1 .1 .1 .1 .1 .1 .1 .1 .0 ∙ length-replicate {A = ℕ} 3072 65535 in
+    (c .before .before .before .before .before .before .before .before .before .before .before .before .before .before .before .before .before .before .before .before .pre .0, c .before .before .before .before .before .before .before .before .before .before .before .before .before .before .before .before .before .before .before .before .pre .1 .formed, c .before .before .before .before .before .before .before .before .before .before .before .before .before .before .before .before .before .before .before .before .pre .2, w .few, omega (arith, l, length-replicate {A = ℕ} 3072 0), wires-of-nodes (c .before .before .before .before .before .before .before .before .before .before .before .before .before .before .before .before .before .before .before .before .pre .1) w l)
+
+slice-aggregate-place-entries : tie.Need-slice-aggregate-place-entries
+slice-aggregate-place-entries c = search needs
+
+slice-aggregate-place-entries-2 : tie.Need-slice-aggregate-place-entries-2
+slice-aggregate-place-entries-2 c = search needs
+
+slice-aggregate-place-entries-3 : tie.Need-slice-aggregate-place-entries-3
+slice-aggregate-place-entries-3 c = search needs
+
+place-entries-requires : tie.Need-place-entries-requires
+place-entries-requires c κs = let a = c .before .before .before .before .before .before .before .before .before .before .before .before .before .before .before .before .before .before .before .before .before .before .before .before .before .before .before .args in
+    let z = size-in (a .file .now) (a .tables .now) (a .nodes .now) in
+    let w = wired-whole (sym z) (c .before .before .before .before .before .before .before .before .before .before .before .before .before .enter-wires .ensures) in
+    let l = c .before .before .before .before .before .before .before .before .before .before .before .before .before .enter-wires .kept  .1 .1 .1 .1 .1 .1 .1 .1 .0 ∙ length-replicate {A = ℕ} 3072 65535 in
+    (c .before .before .before .before .before .before .before .before .before .before .before .before .before .before .before .before .before .before .before .before .before .before .before .before .before .before .before .pre .0, length-replicate {A = ℕ} 1024 0, omega (arith, c .before .before .before .before .before .before .before .before .before .before .before .before .before .before .before .before .before .before .before .before .before .before .before .before .before .before .before .pre .3), omega (arith, c .before .before .before .before .before .before .before .before .before .before .before .before .before .before .before .before .before .before .before .before .before .before .before .before .before .before .before .pre .4), wants-taken (c .before .before .before .before .before .before .before .before .before .before .before .before .before .before .before .before .before .before .before .before .before .before .before .before .before .before .before .pre .1) w l (c .before .before .before .before .before .before .first-words .ensures))
+
+same-length : tie.Need-same-length
+same-length c = c .before .before .before .before .before .before .place-entries .kept  .1 .1 .1 .1 .1 .1 .0
+
+same-length-2 : tie.Need-same-length-2
+same-length-2 c = c .before .before .before .before .before .before .place-entries .kept  .1 .1 .1 .1 .1 .1 .1 .0
+
+returns : tie.Need-returns
+returns c = many-entries _ (c .before .before .before .before .before .before .place-entries .ensures) (c .if1 .taken)
+
+slice-aggregate-lay-wires : tie.Need-slice-aggregate-lay-wires
+slice-aggregate-lay-wires c = search needs
+
+slice-aggregate-lay-wires-2 : tie.Need-slice-aggregate-lay-wires-2
+slice-aggregate-lay-wires-2 c = search needs
+
+slice-aggregate-lay-wires-3 : tie.Need-slice-aggregate-lay-wires-3
+slice-aggregate-lay-wires-3 c = search needs
+
+slice-aggregate-lay-wires-4 : tie.Need-slice-aggregate-lay-wires-4
+slice-aggregate-lay-wires-4 c = search needs
+
+slice-aggregate-lay-wires-5 : tie.Need-slice-aggregate-lay-wires-5
+slice-aggregate-lay-wires-5 c = search needs
+
+lay-wires-requires : tie.Need-lay-wires-requires
+lay-wires-requires c κs = let a = c .before .before .before .before .before .before .before .before .before .before .before .before .before .before .before .before .before .before .before .before .before .before .before .before .before .before .before .before .before .before .before .before .before .before .before .before .before .before .before .before .before .before .args in
+    let z = size-in (a .file .now) (a .tables .now) (a .nodes .now) in
+    let w = wired-whole (sym z) (c .before .before .before .before .before .before .before .before .before .before .before .before .before .before .before .before .before .before .before .before .before .before .before .before .before .before .before .before .enter-wires .ensures) in
+    let l = c .before .before .before .before .before .before .before .before .before .before .before .before .before .before .before .before .before .before .before .before .before .before .before .before .before .before .before .before .enter-wires .kept  .1 .1 .1 .1 .1 .1 .1 .1 .0 ∙ length-replicate {A = ℕ} 3072 65535 in
+    let p = c .before .before .before .before .before .before .before .before .before .before .before .before .before .before .place-entries .ensures in
+    (c .before .before .before .before .before .before .before .before .before .before .before .before .before .before .before .before .before .before .before .before .before .before .before .before .before .before .before .before .before .before .before .before .before .before .before .before .before .before .before .before .before .before .pre .0, planning (c .before .before .before .before .before .before .before .before .before .before .before .before .before .before .before .before .before .before .before .before .before .before .before .before .before .before .before .before .before .before .before .before .before .before .before .before .before .before .before .before .before .before .pre .1) w p (c .before .before .before .before .before .before .before .before .if1 .left) l (c .before .before .before .before .before .before .before .before .before .before .before .before .before .before .before .before .before .before .before .before .before .first-words .ensures), entries-are (c .before .before .before .before .before .before .before .before .before .before .before .before .before .before .before .before .before .before .before .before .before .before .before .before .before .before .before .before .before .before .before .before .before .before .before .before .before .before .before .before .before .before .pre .1) w p (c .before .before .before .before .before .before .before .before .if1 .left), c .before .before .before .before .before .before .before .before .before .before .before .before .before .before .place-entries .kept  .1 .1 .1 .1 .1 .1 .0 ∙ c .before .before .before .before .before .before .before .before .before .before .before .before .before .before .before .before .before .before .before .before .before .before .before .before .before .before .before .before .before .before .before .before .before .before .before .before .before .before .before .before .before .before .pre .3, length-replicate {A = ℕ} 1024 65535, c .before .before .before .before .before .before .before .before .before .before .before .before .before .before .before .before .before .before .before .before .before .before .before .before .before .before .before .before .before .before .before .before .before .before .before .before .before .before .before .before .before .before .pre .5, laid-first (c .before .before .before .before .before .before .before .before .before .before .before .before .before .before .before .before .before .before .before .before .before .before .before .before .before .before .before .before .before .before .before .before .before .before .before .before .before .before .before .before .before .before .pre .1) w p (c .before .before .before .before .before .before .before .before .if1 .left) _)
+
+same-length-3 : tie.Need-same-length-3
+same-length-3 c = c .before .before .before .before .before .before .lay-wires .kept  .1 .1 .1 .1 .1 .1 .1 .1 .1 .1 .1 .0 ∙ c .before .before .before .before .before .before .before .before .before .before .before .before .before .before .before .before .before .before .before .before .before .place-entries .kept  .1 .1 .1 .1 .1 .1 .0
+
+same-length-4 : tie.Need-same-length-4
+same-length-4 c = c .before .before .before .before .before .before .before .before .before .before .before .before .before .before .before .before .before .before .before .before .before .place-entries .kept  .1 .1 .1 .1 .1 .1 .1 .0
+
+same-length-5 : tie.Need-same-length-5
+same-length-5 c = c .before .before .before .before .before .before .lay-wires .kept  .1 .1 .1 .1 .1 .1 .1 .1 .1 .1 .1 .1 .1 .1 .0
+
+returns-2 : tie.Need-returns-2
+returns-2 c = many-registers _ (c .before .before .before .before .before .before .lay-wires .ensures) (c .if2 .taken)
+
+slice-aggregate-first-words-4 : tie.Need-slice-aggregate-first-words-4
+slice-aggregate-first-words-4 c = sym (c .before .before .before .before .before .before .before .lay-wires .kept  .1 .1 .1 .1 .1 .1 .1 .1 .1 .1 .1 .1 .1 .0 ∙ length-replicate {A = ℕ} 1024 65535)
+
+first-words-requires-2 : tie.Need-first-words-requires-2
+first-words-requires-2 c κs = let a = c .before .before .before .before .before .before .before .before .before .before .before .before .before .before .before .before .before .before .before .before .before .before .before .before .before .before .before .before .before .before .before .before .before .before .before .before .before .before .before .before .before .before .before .before .before .before .before .before .before .before .before .before .args in
+    let z = size-in (a .file .now) (a .tables .now) (a .nodes .now) in
+    let w = wired-whole (sym z) (c .before .before .before .before .before .before .before .before .before .before .before .before .before .before .before .before .before .before .before .before .before .before .before .before .before .before .before .before .before .before .before .before .before .before .before .before .before .before .enter-wires .ensures) in
+    let l = c .before .before .before .before .before .before .before .before .before .lay-wires .kept  .1 .1 .1 .1 .1 .1 .1 .1 .1 .1 .1 .1 .1 .0 ∙ length-replicate {A = ℕ} 1024 65535 in
+    (c .before .before .before .before .before .before .before .before .before .before .before .before .before .before .before .before .before .before .before .before .before .before .before .before .before .before .before .before .before .before .before .before .before .before .before .before .before .before .before .before .before .before .before .before .before .before .before .before .before .before .before .before .pre .0, c .before .before .before .before .before .before .before .before .before .before .before .before .before .before .before .before .before .before .before .before .before .before .before .before .before .before .before .before .before .before .before .before .before .before .before .before .before .before .before .before .before .before .before .before .before .before .before .before .before .before .before .before .pre .1 .formed, c .before .before .before .before .before .before .before .before .before .before .before .before .before .before .before .before .before .before .before .before .before .before .before .before .before .before .before .before .before .before .before .before .before .before .before .before .before .before .before .before .before .before .before .before .before .before .before .before .before .before .before .before .pre .2, w .few, omega (arith, l, c .before .before .before .before .before .before .before .before .before .before .before .before .before .before .before .before .before .before .before .before .before .before .before .before .place-entries .kept  .1 .1 .1 .1 .1 .1 .1 .0, c .before .before .before .before .before .before .before .before .before .before .before .before .before .before .before .before .before .before .before .before .before .before .before .before .before .before .before .before .before .before .before .before .before .before .before .before .before .before .before .before .before .before .before .before .before .before .before .before .before .before .before .before .pre .4), registers-of-nodes (c .before .before .before .before .before .before .before .before .before .before .before .before .before .before .before .before .before .before .before .before .before .before .before .before .before .before .before .before .before .before .before .before .before .before .before .before .before .before .before .before .before .before .before .before .before .before .before .before .before .before .before .before .pre .1) w (c .before .before .before .before .before .before .before .before .before .lay-wires .ensures .exact (c .before .before .before .if2 .left)) (c .before .before .before .if2 .left) l)
+
+same-length-6 : tie.Need-same-length-6
+same-length-6 c = c .before .before .before .before .before .before .before .before .before .before .before .before .lay-wires .kept  .1 .1 .1 .1 .1 .1 .1 .1 .1 .1 .1 .0 ∙ c .before .before .before .before .before .before .before .before .before .before .before .before .before .before .before .before .before .before .before .before .before .before .before .before .before .before .before .place-entries .kept  .1 .1 .1 .1 .1 .1 .0
+
+same-length-7 : tie.Need-same-length-7
+same-length-7 c = c .before .before .first-words2 .kept  .1 .1 .1 .1 .1 .1 .1 .0 ∙ c .before .before .before .before .before .before .before .before .before .before .before .before .before .before .before .before .before .before .before .before .before .before .before .before .before .before .before .place-entries .kept  .1 .1 .1 .1 .1 .1 .1 .0
+
+same-length-8 : tie.Need-same-length-8
+same-length-8 c = c .before .before .before .before .before .before .before .before .before .before .before .before .lay-wires .kept  .1 .1 .1 .1 .1 .1 .1 .1 .1 .1 .1 .1 .1 .1 .0
+
+returns-3 : tie.Need-returns-3
+returns-3 c = let a = c .before .before .before .before .before .before .before .before .before .before .before .before .before .before .before .before .before .before .before .before .before .before .before .before .before .before .before .before .before .before .before .before .before .before .before .before .before .before .before .before .before .before .before .before .before .before .before .before .before .before .before .before .before .before .before .args in
+    let z = size-in (a .file .now) (a .tables .now) (a .nodes .now) in
+    let w = wired-whole (sym z) (c .before .before .before .before .before .before .before .before .before .before .before .before .before .before .before .before .before .before .before .before .before .before .before .before .before .before .before .before .before .before .before .before .before .before .before .before .before .before .before .before .before .enter-wires .ensures) in
+    let l = c .before .before .before .before .before .before .before .before .before .before .before .before .lay-wires .kept  .1 .1 .1 .1 .1 .1 .1 .1 .1 .1 .1 .1 .1 .0 ∙ length-replicate {A = ℕ} 1024 65535 in
+    plan-made (c .before .before .before .before .before .before .before .before .before .before .before .before .before .before .before .before .before .before .before .before .before .before .before .before .before .before .before .before .before .before .before .before .before .before .before .before .before .before .before .before .before .before .before .before .before .before .before .before .before .before .before .before .before .before .before .pre .1) w (c .before .before .before .before .before .before .before .before .before .before .before .before .lay-wires .ensures .exact (c .before .before .before .before .before .before .if2 .left)) (c .before .before .before .before .before .before .if2 .left) l (c .before .before .first-words2 .ensures) (entries-are (c .before .before .before .before .before .before .before .before .before .before .before .before .before .before .before .before .before .before .before .before .before .before .before .before .before .before .before .before .before .before .before .before .before .before .before .before .before .before .before .before .before .before .before .before .before .before .before .before .before .before .before .before .before .before .before .pre .1) w (c .before .before .before .before .before .before .before .before .before .before .before .before .before .before .before .before .before .before .before .before .before .before .before .before .before .before .before .place-entries .ensures) (c .before .before .before .before .before .before .before .before .before .before .before .before .before .before .before .before .before .before .before .before .before .if1 .left))
+
+pub make-plan-spec : {M : Type 1} → statement M
+make-plan-spec =
+    tie.close
+    (tie.spec
+    slice-aggregate-enter-wires
+    slice-aggregate-enter-wires-2
+    slice-aggregate-enter-wires-3
+    enter-wires-requires
+    slice-aggregate-first-words
+    slice-aggregate-first-words-2
+    slice-aggregate-first-words-3
+    first-words-requires
+    slice-aggregate-place-entries
+    slice-aggregate-place-entries-2
+    slice-aggregate-place-entries-3
+    place-entries-requires
+    same-length
+    same-length-2
+    returns
+    slice-aggregate-lay-wires
+    slice-aggregate-lay-wires-2
+    slice-aggregate-lay-wires-3
+    slice-aggregate-lay-wires-4
+    slice-aggregate-lay-wires-5
+    lay-wires-requires
+    same-length-3
+    same-length-4
+    same-length-5
+    returns-2
+    slice-aggregate-first-words-4
+    first-words-requires-2
+    same-length-6
+    same-length-7
+    same-length-8
+    returns-3)

@@ -1,0 +1,190 @@
+-- From the work areas of each step to the plan. Assumes nothing.
+use mathlib.Core.Path.{_≡_, refl, sym, ap, ap₂, subst, _∙_}
+use mathlib.Core.Logic.{⊎-elim}
+use mathlib.Core.Bool.{Bool, true, false, cond}
+use mathlib.Core.List.{List, [], _∷_, _++_}
+use Prim.Native.Nat.{ℕ, zero, suc, _+_, _-_, _*_, _/_, _%_, _≤_, _<_, zero-le}
+use native.Mathlib.Nat.{not-suc-le-zero}
+use native.Mathlib.Omega.{arith}
+use lib.ListN.{length, getD, replicate, length-append, length-replicate, getD-replicate, List·getD-append}
+use lib.Seq.{getD-append-add}
+use lib.Dec.{ltb}
+use borrow.Author.Tests.{lt-ltb, le-ltb}
+use Rattle.lists.specs.BelowLaws.{true-or-false, lt-or-le}
+use Rattle.netlist.specs.Net.{Net, size, elementAt, source, operands, Sourced}
+use Rattle.netlist.specs.NodeLaws.{few-operands}
+use Rattle.behaviour.specs.Run.{zeroWord}
+use Rattle.retiming.specs.Leads.{lead}
+use Rattle.retiming.specs.Rewrite.{Place, Entry, Reg, root, memoryAt, countOn, copyOn, wordFrom, resetWord, entryPlaces, regPlaces, places, numberOf, along, timing, timingBy}
+use Rattle.retiming.specs.Layout.{noPlace, Stands, Sound, places-sound}
+use Rattle.first_clocks.specs.Wanted.{OfNodes, Taken}
+use Rattle.plan.specs.Wiring.{Ready, countFrom, count-from, wiresTo, readerOf, sourceOf, wireAt, lastClock, Wired, WiredTo, Copied}
+use Rattle.plan.specs.WiringLaws.{wire-inside}
+use Rattle.plan.specs.Entries.{Stored, Wants, AllPlaced}
+use Rattle.plan.specs.EntriesLaws.{all-wanted}
+use Rattle.plan.specs.Registers.{entryCount, entryAt, wiresBefore, Planning, RegHeld, HeadHeld, Laid, AllLaid}
+use Rattle.plan.specs.RegistersLaws.{regs-in-row, wires-all}
+use Rattle.plan.specs.Plan.{HoldsAt, Planned, PlanMade}
+
+-- a reset word is a word of the run
+reset-is : (N : Net) (x p j : ℕ) → resetWord N (timing N) (zeroWord N) x p j ≡ zeroWord N (j + lead N x) (source N x p)
+unfolding resetWord wordFrom timing timingBy lead
+reset-is N x p j =
+    ap (λ (b : Bool). cond b 0 (zeroWord N ((j + lead N x) - 0) (source N x p))) (le-ltb (j + lead N x) 0 zero-le) ∙ ap (λ (t : ℕ). zeroWord N t (source N x p)) (let e : (j + lead N x) - 0 ≡ j + lead N x = omega arith in e)
+
+-- ---- the wires
+
+pub wired-whole : {N : Net} {ends froms clocks : List ℕ} {limit n : ℕ} → n ≡ size N → WiredTo N ends froms clocks limit (3 * n) → WiredTo N ends froms clocks limit (3 * size N)
+wired-whole {N} {ends} {froms} {clocks} {limit} e w = subst (λ (k : ℕ). WiredTo N ends froms clocks limit (3 * k)) e w
+
+module _ {N : Net} {leads roots passes ends froms clocks : List ℕ} {limit : ℕ} (ready : Ready N leads roots passes) (w : WiredTo N ends froms clocks limit (3 * size N)) where
+  small : size N ≤ 1024
+  small = ready .formed .fields .bounds .nodes
+
+  pub wires-of-nodes : length clocks ≡ 3072 → OfNodes N clocks froms limit
+  wires-of-nodes l k h b = ⊎-elim inside (λ y. absurd (omega (arith, w .ahead k y (omega arith) .never, w .few))) (lt-or-le k (3 * size N))
+    where
+      inside : k < 3 * size N → getD froms k 0 < size N
+      inside y = ⊎-elim wire (λ g. absurd (omega (arith, w .gaps k y g .never, w .few))) (true-or-false (wireAt N k))
+        where
+          wire : wireAt N k ≡ true → getD froms k 0 < size N
+          wire g = omega (arith, w .wires k y g .from, wire-inside N (ready .formed .sourced) k y g)
+
+  pub copies-made : {copied : List ℕ} → length clocks ≡ 3072 → Taken N clocks froms (replicate 3072 0) copied limit → Copied N copied
+  unfolding copyOn lastClock
+  copies-made {copied} l t k h g = ⊎-elim rom other (true-or-false (memoryAt N (root N (sourceOf N k))))
+    where
+      y : Wired N ends froms clocks limit k
+      y = w .wires k h g
+
+      rom : memoryAt N (root N (sourceOf N k)) ≡ true → getD copied k 0 ≡ copyOn N (timing N) (zeroWord N) (k / 3) (k % 3)
+      rom m =
+          t .given k (omega arith) (omega (arith, y .rom m, y .early))
+          ∙ ap₂ (zeroWord N) (y .rom m ∙ ap (λ (n : ℕ). n + lead N (k / 3)) (sym (count-from N (k / 3) (k % 3)))) (y .from)
+          ∙ sym (reset-is N (k / 3) (k % 3) (countOn N (timing N) (zeroWord N) (k / 3) (k % 3)))
+          ∙ sym (ap (λ (b : Bool). cond b (resetWord N (timing N) (zeroWord N) (k / 3) (k % 3) (countOn N (timing N) (zeroWord N) (k / 3) (k % 3))) 0) m)
+
+      other : memoryAt N (root N (sourceOf N k)) ≡ false → getD copied k 0 ≡ copyOn N (timing N) (zeroWord N) (k / 3) (k % 3)
+      other m =
+          t .others k (omega (arith, y .other m, w .few)) ∙ getD-replicate 3072 k 0 0 (omega arith)
+          ∙ sym (ap (λ (b : Bool). cond b (resetWord N (timing N) (zeroWord N) (k / 3) (k % 3) (countOn N (timing N) (zeroWord N) (k / 3) (k % 3))) 0) m)
+
+  wants-made : (copied : List ℕ) → Copied N copied → Wants N ends copied
+  wants-made copied made u h = all-wanted copied w made small u h
+
+  pub wants-taken : {copied : List ℕ} → length clocks ≡ 3072 → Taken N clocks froms (replicate 3072 0) copied limit → Wants N ends copied
+  wants-taken {copied} l t = wants-made copied (copies-made l t)
+
+  -- ---- the entries
+
+  module _ {owners words firsts : List ℕ} {entries : ℕ} (placed : AllPlaced N owners words firsts entries) (few : entries ≤ 1024) where
+    pub entries-are : entries ≡ entryCount N
+    entries-are = placed .exact few .0
+
+    pub planning : {copied : List ℕ} → length clocks ≡ 3072 → Taken N clocks froms (replicate 3072 0) copied limit → Planning N leads roots passes ends froms copied firsts
+    planning l t = record {
+      ready = ready;
+      ends-in = λ k h g. w .wires k h g .end;
+      froms-in = λ k h g. w .wires k h g .from;
+      gaps = λ k h g. w .gaps k h g .end;
+      copies-in = copies-made l t;
+      firsts-in = placed .exact few .2;
+      few = omega (arith, entries-are);
+    }
+
+    pub laid-first : (sources : List ℕ) → Laid N owners words (replicate 1024 65535) sources 0 entries
+    unfolding wiresBefore
+    laid-first sources = record {
+      held = placed .exact few .1;
+      count = omega (arith, entries-are);
+      heads = λ j l. absurd (not-suc-le-zero l);
+      regs = λ j l b. absurd (not-suc-le-zero l);
+      never = λ i l. getD-replicate 1024 i 65535 0 (omega (arith, entries-are));
+      ahead = λ i l b. getD-replicate 1024 i 65535 0 b;
+    }
+
+  -- the wire of a register is among those entered, and its clock below the limit
+  early-enough : (x c p j : ℕ) → Sound N (timing N) (zeroWord N) (Reg x c p j) → j + lead N x < limit
+  unfolding wireAt lastClock
+  early-enough x c p j (s, o, l) =
+      let k : ℕ = 3 * x + p in
+      let three = few-operands (elementAt N x) in
+      let a : k / 3 ≡ x = omega arith in
+      let b : k % 3 ≡ p = omega arith in
+      let g : wireAt N k ≡ true = ap₂ (λ (i q : ℕ). ltb i (wiresTo (elementAt N q))) b a ∙ lt-ltb p (wiresTo (elementAt N x)) (omega (arith, wires-all (elementAt N x) (s .other))) in
+      let e : lastClock N k ≡ countOn N (timing N) (zeroWord N) x p + lead N x = ap₂ (λ (i q : ℕ). countFrom N i (source N i q) + lead N i) a b ∙ ap (λ (n : ℕ). n + lead N x) (sym (count-from N x p)) in
+      omega (arith, w .wires k (omega (arith, s .inside)) g .early)
+
+  -- ---- the registers, and all
+
+  module _ {owners words late sources : List ℕ} {total : ℕ} (d : Laid N owners words late sources (3 * entryCount N) total) (few : total ≤ 1024) where
+    all : List Place
+    all = places N (timing N) (zeroWord N)
+
+    all-length : length all ≡ entryCount N + length (wiresBefore N (3 * entryCount N))
+    unfolding all places
+    all-length = length-append (entryPlaces N (timing N) (zeroWord N)) (regPlaces N (timing N) (zeroWord N)) ∙ ap (λ (l : List Place). entryCount N + length l) (regs-in-row N)
+
+    entry-at : (i : ℕ) → i < entryCount N → getD all i noPlace ≡ Entry (getD owners i 0) (getD words i 0)
+    unfolding all places
+    entry-at i h = List·getD-append (entryPlaces N (timing N) (zeroWord N)) (regPlaces N (timing N) (zeroWord N)) noPlace i h ∙ d .held i h
+
+    reg-at : (k : ℕ) → getD all (entryCount N + k) noPlace ≡ getD (wiresBefore N (3 * entryCount N)) k noPlace
+    unfolding all places
+    reg-at k = getD-append-add (entryPlaces N (timing N) (zeroWord N)) (regPlaces N (timing N) (zeroWord N)) k noPlace ∙ ap (λ (l : List Place). getD l k noPlace) (regs-in-row N)
+
+    -- a register's place is held, and sound
+    reg-held : (i : ℕ) → entryCount N ≤ i → i < total → RegHeld N owners words late sources i (getD all i noPlace) × Sound N (timing N) (zeroWord N) (getD all i noPlace)
+    unfolding all
+    reg-held i h l =
+        let k : ℕ = i - entryCount N in
+        let e : entryCount N + k ≡ i = omega arith in
+        (subst (λ (n : ℕ). RegHeld N owners words late sources n (getD all n noPlace)) e (subst (RegHeld N owners words late sources (entryCount N + k)) (sym (reg-at k)) (d .regs k (omega (arith, d .count)) (omega arith))), places-sound N (timing N) (zeroWord N) i (omega (arith, all-length, d .count)))
+
+    reg-source : (i : ℕ) (pl : Place) → RegHeld N owners words late sources i pl × Sound N (timing N) (zeroWord N) pl → getD owners i 0 < size N
+    unfolding Sourced
+    reg-source i (Entry x c) (g, s) = absurd g
+    reg-source i (Reg x c p j) ((g, g′, g″), (s, o, l)) = omega (arith, g, ready .formed .sourced x p (s .inside) o)
+
+    pub registers-of-nodes : length late ≡ 1024 → OfNodes N late owners limit
+    registers-of-nodes l i h b =
+        ⊎-elim (λ y. absurd (omega (arith, d .never i y, w .few)))
+        (λ y. ⊎-elim (λ z. reg-source i (getD all i noPlace) (reg-held i y z)) (λ z. absurd (omega (arith, d .ahead i z (omega arith), w .few))) (lt-or-le i total))
+        (lt-or-le i (entryCount N))
+
+    module _ {made : List ℕ} (long : length late ≡ 1024) (t : Taken N late owners words made limit) where
+      entry-holds : (i : ℕ) → i < entryCount N → HoldsAt N owners made sources i (Entry (getD owners i 0) (getD words i 0))
+      entry-holds i h = (refl, t .others i (omega (arith, d .never i h, w .few)), heads)
+        where
+          heads : (p : ℕ) → p < operands (elementAt N (getD owners i 0)) → getD sources (3 * i + p) 0 ≡ numberOf N (timing N) (zeroWord N) (along N (timing N) (zeroWord N) (getD owners i 0) (getD words i 0) p 0)
+          heads p o =
+              let three = few-operands (elementAt N (getD owners i 0)) in
+              let a : (3 * i + p) / 3 ≡ i = omega arith in
+              let b : (3 * i + p) % 3 ≡ p = omega arith in
+              let head : HeadHeld N owners words late sources (3 * i + p) (Entry (getD owners i 0) (getD words i 0)) p = subst (λ (pl : Place). HeadHeld N owners words late sources (3 * i + p) pl p) (d .held i h) (subst (λ (q : ℕ). HeadHeld N owners words late sources (3 * i + p) (entryAt N i) q) b (subst (λ (q : ℕ). HeadHeld N owners words late sources (3 * i + p) (entryAt N q) ((3 * i + p) % 3)) a (d .heads (3 * i + p) (omega arith)))) in
+              head o
+
+      reg-holds : (i : ℕ) → i < total → (pl : Place) → RegHeld N owners words late sources i pl × Sound N (timing N) (zeroWord N) pl → HoldsAt N owners made sources i pl
+      reg-holds i h (Entry x c) (g, s) = absurd g
+      reg-holds i h (Reg x c p j) ((g, g′, g″), s) = (g, t .given i (omega arith) (omega (arith, g′, early-enough x c p j s)) ∙ ap₂ (zeroWord N) g′ g ∙ sym (reset-is N x p j), g″)
+
+      each : (i : ℕ) → i < total → HoldsAt N owners made sources i (getD all i noPlace)
+      each i h =
+          ⊎-elim (λ y. subst (HoldsAt N owners made sources i) (sym (entry-at i y)) (entry-holds i y)) (λ y. reg-holds i h (getD all i noPlace) (reg-held i y h)) (lt-or-le i (entryCount N))
+
+      pub plan-made : {entries : ℕ} → entries ≡ entryCount N → PlanMade N owners made sources entries total
+      unfolding all
+      plan-made e = record { exact = λ o. record { first = e; count = omega (arith, all-length, d .count); each = each }; over = λ o. absurd (omega arith) }
+
+-- ---- too many nodes
+
+module _ (N : Net) where
+  places-length : length (places N (timing N) (zeroWord N)) ≡ entryCount N + length (wiresBefore N (3 * entryCount N))
+  unfolding places
+  places-length = length-append (entryPlaces N (timing N) (zeroWord N)) (regPlaces N (timing N) (zeroWord N)) ∙ ap (λ (l : List Place). entryCount N + length l) (regs-in-row N)
+
+  pub many-entries : {owners words firsts owners′ words′ sources : List ℕ} {entries : ℕ} → AllPlaced N owners words firsts entries → 1024 < entries → PlanMade N owners′ words′ sources entries entries
+  many-entries p h = record { exact = λ o. absurd (omega arith); over = λ o. omega (arith, p .over h, places-length) }
+
+  pub many-registers : {owners words late sources owners′ words′ sources′ : List ℕ} {entries total : ℕ} → AllLaid N owners words late sources total → 1024 < total → PlanMade N owners′ words′ sources′ entries total
+  many-registers p h = record { exact = λ o. absurd (omega arith); over = λ o. omega (arith, p .over h, places-length) }
