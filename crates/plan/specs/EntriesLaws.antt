@@ -21,7 +21,7 @@ use Rattle.netlist.specs.NodeLaws.{few-operands}
 use Rattle.behaviour.specs.Run.{zeroWord}
 use Rattle.retiming.specs.Rewrite.{Place, Entry, Reg, root, memoryAt, stays, copyOn, copiesAt, copiesOf, copies, entriesOf, entryPlaces, timing, timingBy}
 use Rattle.retiming.specs.Layout.{noPlace}
-use Rattle.plan.specs.Threes.{concat-next, inRow, row-of-three, in-threes}
+use Rattle.plan.specs.Threes.{concat-next, concat-longer, inRow, row-of-three, in-threes}
 use Rattle.plan.specs.Wiring.{wiresTo, sourceOf, wireAt, Wired, Unwired, WiredTo, Copied}
 use Rattle.plan.specs.WiringLaws.{wires-few}
 use Rattle.plan.specs.Entries.{Finds, Stored, Placing, Adds, wantedOf, Wants, AddsAll, entriesBefore, Firsts, AllPlaced}
@@ -253,15 +253,9 @@ pub entries-all : (N : Net) → entriesBefore N (size N) ≡ entryPlaces N (timi
 unfolding entriesBefore entryPlaces
 entries-all N = refl
 
-longer-by : (N : Net) (u k : ℕ) → length (entriesBefore N u) ≤ length (entriesBefore N (u + k))
-unfolding entriesBefore
-longer-by N u zero = let e : u + 0 ≡ u = omega arith in rw e (le-refl _)
-longer-by N u (suc k) =
-    let e : u + suc k ≡ u + k + 1 = omega arith in
-    rw (e, concat-next (entriesOf N (timing N) (zeroWord N)) (u + k), length-append) (omega (arith, longer-by N u k))
-
 pub longer-after : (N : Net) (u v : ℕ) → u ≤ v → length (entriesBefore N u) ≤ length (entriesBefore N v)
-longer-after N u v h = let e : u + (v - u) ≡ v = omega arith in subst (λ (k : ℕ). length (entriesBefore N u) ≤ length (entriesBefore N k)) e (longer-by N u (v - u))
+unfolding entriesBefore
+longer-after N u v h = concat-longer (entriesOf N (timing N) (zeroWord N)) u v h
 
 module _ (N : Net) (firsts : List ℕ) {owners words : List ℕ} {u count : ℕ} (t : Placing owners words (entriesBefore N u) count) where
   -- there are too many before the last node is reached

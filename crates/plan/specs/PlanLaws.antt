@@ -23,8 +23,8 @@ use Rattle.plan.specs.WiringLaws.{wire-inside}
 use Rattle.plan.specs.Entries.{Stored, Wants, AllPlaced}
 use Rattle.plan.specs.EntriesLaws.{all-wanted}
 use Rattle.plan.specs.Registers.{entryCount, entryAt, wiresBefore, Planning, RegHeld, HeadHeld, Laid, AllLaid}
-use Rattle.plan.specs.RegistersLaws.{regs-in-row, wires-all}
-use Rattle.plan.specs.Plan.{HoldsAt, Planned, PlanMade}
+use Rattle.plan.specs.RegistersLaws.{regs-in-row, wires-all, reader-stands}
+use Rattle.plan.specs.Plan.{RegAt, Planned, PlanMade}
 
 -- a reset word is a word of the run
 reset-is : (N : Net) (x p j : ℕ) → resetWord N (timing N) (zeroWord N) x p j ≡ zeroWord N (j + lead N x) (source N x p)
@@ -153,28 +153,38 @@ module _ {N : Net} {leads roots passes ends froms clocks : List ℕ} {limit : �
         (lt-or-le i (entryCount N))
 
     module _ {made : List ℕ} (long : length late ≡ 1024) (t : Taken N late owners words made limit) where
-      entry-holds : (i : ℕ) → i < entryCount N → HoldsAt N owners made sources i (Entry (getD owners i 0) (getD words i 0))
-      entry-holds i h = (refl, t .others i (omega (arith, d .never i h, w .few)), heads)
-        where
-          heads : (p : ℕ) → p < operands (elementAt N (getD owners i 0)) → getD sources (3 * i + p) 0 ≡ numberOf N (timing N) (zeroWord N) (along N (timing N) (zeroWord N) (getD owners i 0) (getD words i 0) p 0)
-          heads p o =
-              let three = few-operands (elementAt N (getD owners i 0)) in
-              let a : (3 * i + p) / 3 ≡ i = omega arith in
-              let b : (3 * i + p) % 3 ≡ p = omega arith in
-              let head : HeadHeld N owners words late sources (3 * i + p) (Entry (getD owners i 0) (getD words i 0)) p = subst (λ (pl : Place). HeadHeld N owners words late sources (3 * i + p) pl p) (d .held i h) (subst (λ (q : ℕ). HeadHeld N owners words late sources (3 * i + p) (entryAt N i) q) b (subst (λ (q : ℕ). HeadHeld N owners words late sources (3 * i + p) (entryAt N q) ((3 * i + p) % 3)) a (d .heads (3 * i + p) (omega arith)))) in
-              head o
+      word-stays : (i : ℕ) → i < entryCount N → getD made i 0 ≡ getD words i 0
+      word-stays i h = t .others i (omega (arith, d .never i h, w .few))
 
-      reg-holds : (i : ℕ) → i < total → (pl : Place) → RegHeld N owners words late sources i pl × Sound N (timing N) (zeroWord N) pl → HoldsAt N owners made sources i pl
+      entry-reads : (i p : ℕ) → i < entryCount N → p < operands (elementAt N (getD owners i 0))
+          → getD sources (3 * i + p) 0 ≡ numberOf N (timing N) (zeroWord N) (along N (timing N) (zeroWord N) (getD owners i 0) (getD made i 0) p 0)
+      entry-reads i p h o =
+          let three = few-operands (elementAt N (getD owners i 0)) in
+          let a : (3 * i + p) / 3 ≡ i = omega arith in
+          let b : (3 * i + p) % 3 ≡ p = omega arith in
+          let head : HeadHeld N owners words late sources (3 * i + p) (Entry (getD owners i 0) (getD words i 0)) p = subst (λ (pl : Place). HeadHeld N owners words late sources (3 * i + p) pl p) (d .held i h) (subst (λ (q : ℕ). HeadHeld N owners words late sources (3 * i + p) (entryAt N i) q) b (subst (λ (q : ℕ). HeadHeld N owners words late sources (3 * i + p) (entryAt N q) ((3 * i + p) % 3)) a (d .heads (3 * i + p) (omega arith)))) in
+          head o ∙ ap (λ (c : ℕ). numberOf N (timing N) (zeroWord N) (along N (timing N) (zeroWord N) (getD owners i 0) c p 0)) (sym (word-stays i h))
+
+      reg-holds : (i : ℕ) → i < total → (pl : Place) → RegHeld N owners words late sources i pl × Sound N (timing N) (zeroWord N) pl → RegAt N owners made sources i pl
       reg-holds i h (Entry x c) (g, s) = absurd g
       reg-holds i h (Reg x c p j) ((g, g′, g″), s) = (g, t .given i (omega arith) (omega (arith, g′, early-enough x c p j s)) ∙ ap₂ (zeroWord N) g′ g ∙ sym (reset-is N x p j), g″)
 
-      each : (i : ℕ) → i < total → HoldsAt N owners made sources i (getD all i noPlace)
-      each i h =
-          ⊎-elim (λ y. subst (HoldsAt N owners made sources i) (sym (entry-at i y)) (entry-holds i y)) (λ y. reg-holds i h (getD all i noPlace) (reg-held i y h)) (lt-or-le i (entryCount N))
+      entry-inside : (i : ℕ) → i < entryCount N → getD owners i 0 < size N
+      entry-inside i h = reader-stands N owners words (d .held) i h .inside
 
       pub plan-made : {entries : ℕ} → entries ≡ entryCount N → PlanMade N owners made sources entries total
       unfolding all
-      plan-made e = record { exact = λ o. record { first = e; count = omega (arith, all-length, d .count); each = each }; over = λ o. absurd (omega arith) }
+      plan-made e = record {
+        exact = λ o. record {
+          first = omega (arith, d .count);
+          count = omega (arith, all-length, d .count);
+          inside = λ i h. ⊎-elim (entry-inside i) (λ y. reg-source i (getD all i noPlace) (reg-held i y h)) (lt-or-le i (entryCount N));
+          entry = λ i h. entry-at i (omega arith) ∙ ap (Entry (getD owners i 0)) (sym (word-stays i (omega arith)));
+          reads = λ i p h. entry-reads i p (omega arith);
+          register = λ i h l. reg-holds i l (getD all i noPlace) (reg-held i (omega arith) l);
+        };
+        over = λ o. absurd (omega arith);
+      }
 
 -- ---- too many nodes
 

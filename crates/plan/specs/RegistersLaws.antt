@@ -23,7 +23,7 @@ use Rattle.retiming.specs.Rewrite.{Place, Entry, Reg, root, countOn, copyOn, co
 use Rattle.retiming.specs.Layout.{noPlace, Stands, Sound, places-sound, stays-if, copy-on, along-reg, along-end}
 use Rattle.retiming.specs.Numbers.{number-of-place}
 use Rattle.retiming.specs.Wires.{Rooted, ringless-rooted, root-within}
-use Rattle.plan.specs.Threes.{concat-next, inRow, row-of-three, in-threes}
+use Rattle.plan.specs.Threes.{concat-next, concat-after, concat-longer, inRow, row-of-three, in-threes}
 use Rattle.plan.specs.Wiring.{Ready, countFrom, count-from, wiresTo, sourceOf, wireAt, Copied}
 use Rattle.plan.specs.Entries.{Finds, Stored, Firsts, entriesBefore}
 use Rattle.plan.specs.EntriesLaws.{longer-after, entries-all}
@@ -122,7 +122,7 @@ module _ (N : Net) where
   -- the first wires' registers come first
   wires-after : (m k : ℕ) → wiresBefore N (m + k) ≡ wiresBefore N m ++ concatMap (λ j. wireOf N (entryAt N (j / 3)) (j % 3)) (upFrom (0 + m) k)
   unfolding wiresBefore
-  wires-after m k = ap (concatMap (λ j. wireOf N (entryAt N (j / 3)) (j % 3))) (upFrom-split 0 m k) ∙ concatMap-append (λ j. wireOf N (entryAt N (j / 3)) (j % 3)) (upFrom 0 m) (upFrom (0 + m) k)
+  wires-after m k = concat-after (λ j. wireOf N (entryAt N (j / 3)) (j % 3)) m k
 
   wires-first : (m b i : ℕ) → m ≤ b → i < length (wiresBefore N m) → (i < length (wiresBefore N b)) × (getD (wiresBefore N b) i noPlace ≡ getD (wiresBefore N m) i noPlace)
   wires-first m b i h k =
@@ -431,12 +431,11 @@ module _ {N : Net} {leads roots passes ends froms copied firsts : List ℕ} (t :
 
 module _ (N : Net) {owners words late sources : List ℕ} {m total : ℕ} (d : Laid N owners words late sources m total) where
   pub laid-over : m ≤ 3 * entryCount N → 1024 < total → AllLaid N owners words late sources total
+  unfolding wiresBefore
   laid-over h o = record { exact = λ e. absurd (omega arith); over = λ e. omega (arith, d .count, longer) }
     where
       longer : length (wiresBefore N m) ≤ length (wiresBefore N (3 * entryCount N))
-      longer =
-          let k : m + (3 * entryCount N - m) ≡ 3 * entryCount N = omega arith in
-          omega (arith, ap (λ (i : ℕ). length (wiresBefore N i)) k, ap length (wires-after N m (3 * entryCount N - m)), length-append (wiresBefore N m) (concatMap (λ j. wireOf N (entryAt N (j / 3)) (j % 3)) (upFrom (0 + m) (3 * entryCount N - m))))
+      longer = concat-longer (λ j. wireOf N (entryAt N (j / 3)) (j % 3)) m (3 * entryCount N) h
 
   pub laid-all : m ≡ 3 * entryCount N → AllLaid N owners words late sources total
   laid-all e = record { exact = λ o. subst (λ (i : ℕ). Laid N owners words late sources i total) e d; over = λ o. omega (arith, d .count, ap (λ (i : ℕ). length (wiresBefore N i)) e) }

@@ -2,9 +2,10 @@
 use mathlib.Core.Path.{_≡_, refl, sym, ap, ap₂, _∙_}
 use mathlib.Core.Bool.{cond}
 use mathlib.Core.List.{List, [], _∷_, _++_, append-nil, append-assoc}
-use Prim.Native.Nat.{ℕ, zero, suc, _+_, _*_, _≤_, _<_}
+use Prim.Native.Nat.{ℕ, zero, suc, _+_, _-_, _*_, _≤_, _<_}
 use native.Mathlib.Nat.{zero-add, not-suc-le-zero, le-of-suc-le-suc}
 use native.Mathlib.Omega.{arith}
+use lib.ListN.{length, length-append}
 use lib.Dec.{ltb}
 use Rattle.lists.specs.Lists.{upFrom, below, concatMap}
 use Rattle.lists.specs.BelowLaws.{upFrom-split}
@@ -16,6 +17,15 @@ module _ {B : Type 0} where
   concat-next f n =
       ap (concatMap f) (upFrom-split 0 n 1) ∙ concatMap-append f (upFrom 0 n) (upFrom (0 + n) 1)
       ∙ ap (λ (l : List B). concatMap f (below n) ++ l) (append-nil (f (0 + n)) ∙ ap f (zero-add n))
+
+  -- the parts of the first m, and then those of the next k
+  pub concat-after : (f : ℕ → List B) (m k : ℕ) → concatMap f (below (m + k)) ≡ concatMap f (below m) ++ concatMap f (upFrom (0 + m) k)
+  concat-after f m k = ap (concatMap f) (upFrom-split 0 m k) ∙ concatMap-append f (upFrom 0 m) (upFrom (0 + m) k)
+
+  pub concat-longer : (f : ℕ → List B) (m n : ℕ) → m ≤ n → length (concatMap f (below m)) ≤ length (concatMap f (below n))
+  concat-longer f m n h =
+      let e : m + (n - m) ≡ n = omega arith in
+      omega (arith, ap (λ (k : ℕ). length (concatMap f (below k))) e, ap length (concat-after f m (n - m)), length-append (concatMap f (below m)) (concatMap f (upFrom (0 + m) (n - m))))
 
   -- place p of a row of m
   abbrev pub inRow : ℕ → (ℕ → List B) → ℕ → List B

@@ -1,0 +1,2 @@
+// The rewriter.
+mod layout;
