@@ -1,5 +1,116 @@
 -- The rewriting of a file that the reader takes, check by check. Assumes nothing.
-use mathlib.Core.Path.{_≡_}
-use mathlib.Core.List.{List}
-use Prim.Native.Nat.{ℕ}
-use Rattle.netlist.specs.Net.{Net}
+use mathlib.Core.Path.{_≡_, refl, sym, ap, ap₂, _∙_}
+use mathlib.Core.Logic.{⊎-elim}
+use mathlib.Core.Bool.{Bool, true, false, cond}
+use mathlib.Core.List.{List, [], _∷_, _++_}
+use Prim.Native.Nat.{ℕ, _≤_, _<_}
+use native.Mathlib.Omega.{arith}
+use lib.ListN.{length, drop, length-map}
+use lib.Dec.{ltb, lit<}
+use borrow.Author.Tests.{lt-ltb, le-ltb}
+use Rattle.netlist.specs.Net.{Net, size}
+use Rattle.netlist.specs.Verdict.{ofWhole, verdict, readerVerdict}
+use Rattle.netlist.specs.Checks.{WellFormed}
+use Rattle.netlist.specs.VerdictLaws.{fine-clear, reader-fine}
+use Rattle.netlist.specs.File.{Decoded, bad, good, netIn, decode, judged, fileVerdict, encode}
+use Rattle.netlist.specs.declared.Answer.{Answer}
+use Rattle.netlist.specs.declared.Answer.the-variants.{Accepted, Refused}
+use Rattle.netlist.specs.declared.Verdict.{Verdict}
+use Rattle.netlist.specs.declared.Verdict.the-variants.{Fine, Refuses}
+use Rattle.codec.specs.Bytes.{Bytes}
+use Rattle.codec.specs.DecodeWithin.{decode-within}
+use Rattle.codec.specs.EncodeDecode.{tables-as-they-came}
+use Rattle.checks.specs.Open.{Open}
+use Rattle.checks.proofs.Opens.{decoded-as}
+use Rattle.behaviour.specs.Run.{zeroWord}
+use Rattle.retiming.specs.Leads.{closedDebt}
+use Rattle.retiming.specs.Rewrite.{places, nodeOf, timing, rewrittenWith, rewritten}
+use Rattle.retiming.specs.Debt.{grown, debtVerdict}
+use Rattle.retiming.specs.FileRewrite.{debtAfter, rewriterJudged, rewriterVerdict, rewrittenOf, rewrittenFile, Rewrote, written, writtenAfter, rewriteFile}
+use Rattle.leads.specs.Debts.{debtsVerdict, onward, debts-first}
+use Rattle.rewriter.specs.Written.{TablesCame}
+
+-- ---- 13
+
+unfoldable pub grownVerdict : Net → Verdict
+grownVerdict N = verdict (ofWhole 13 (λ v. grown (rewritten N)) ∷ [])
+
+module _ (N : Net) where
+  new-size : size (rewritten N) ≡ length (places N (timing N) (zeroWord N))
+  unfolding rewritten rewrittenWith
+  new-size = length-map (places N (timing N) (zeroWord N)) (nodeOf N (timing N) (zeroWord N))
+
+  pub says-13 : 1024 < length (places N (timing N) (zeroWord N)) → Refuses 13 65535 ≡ grownVerdict N
+  unfolding grownVerdict verdict grown
+  says-13 h = let g : ltb 1024 (size (rewritten N)) ≡ true = lt-ltb 1024 (size (rewritten N)) (omega (arith, new-size)) in sym (rw (g, verdict))
+
+  pub says-fine : length (places N (timing N) (zeroWord N)) ≤ 1024 → Fine ≡ grownVerdict N
+  unfolding grownVerdict verdict grown
+  says-fine h = let g : ltb 1024 (size (rewritten N)) ≡ false = le-ltb 1024 (size (rewritten N)) (omega (arith, new-size)) in sym (rw (g, verdict))
+
+-- ---- what the rewriter leaves of a netlist that the reader takes, and of one that 11 and 12 let pass
+
+abbrev pub debtlessOutcome : Net → List ℕ → Rewrote
+debtlessOutcome N out = writtenAfter (grownVerdict N) (encode (rewritten N)) out
+
+abbrev pub netOutcome : Net → List ℕ → Rewrote
+netOutcome N out = writtenAfter (debtVerdict N) (encode (rewritten N)) out
+
+-- ---- answer and output, as they are stated
+
+pub rewrote : {x y : Rewrote} → x ≡ y → (x .answer ≡ y .answer) × (x .out ≡ y .out)
+rewrote e = (ap (λ (z : Rewrote). z .answer) e, ap (λ (z : Rewrote). z .out) e)
+
+-- 14, or written
+pub too-short : (b out : List ℕ) → length out < length b → record { answer = Refused 14 65535; out = out } ≡ written b out
+unfolding written
+too-short b out h = sym (rw (lt-ltb (length out) (length b) h))
+
+pub long-enough : (b out : List ℕ) → length b ≤ length out → record { answer = Accepted (length b); out = b ++ drop (length b) out } ≡ written b out
+unfolding written
+long-enough b out h = sym (rw (le-ltb (length out) (length b) h))
+
+module _ (N : Net) (out : List ℕ) where
+  pub debtless-13 : 1024 < length (places N (timing N) (zeroWord N)) → record { answer = Refused 13 65535; out = out } ≡ debtlessOutcome N out
+  debtless-13 h = ap (λ (v : Verdict). writtenAfter v (encode (rewritten N)) out) (says-13 N h)
+
+  pub debtless-written : length (places N (timing N) (zeroWord N)) ≤ 1024 → written (encode (rewritten N)) out ≡ debtlessOutcome N out
+  debtless-written h = ap (λ (v : Verdict). writtenAfter v (encode (rewritten N)) out) (says-fine N h)
+
+  onward-verdict : {v : Verdict} → v ≡ debtsVerdict N → onward v (grownVerdict N) ≡ debtVerdict N
+  unfolding grownVerdict
+  onward-verdict e = ap (λ (w : Verdict). onward w (grownVerdict N)) e ∙ sym (debts-first N)
+
+  pub net-debt : {v : Verdict} {k p : ℕ} → v ≡ debtsVerdict N → v ≡ Refuses k p → record { answer = Refused k p; out = out } ≡ netOutcome N out
+  net-debt e q = ap (λ (w : Verdict). writtenAfter w (encode (rewritten N)) out) (sym (ap (λ (w : Verdict). onward w (grownVerdict N)) q) ∙ onward-verdict e)
+
+  pub net-debtless : {v : Verdict} → v ≡ debtsVerdict N → v ≡ Fine → debtlessOutcome N out ≡ netOutcome N out
+  net-debtless e q = ap (λ (w : Verdict). writtenAfter w (encode (rewritten N)) out) (sym (ap (λ (w : Verdict). onward w (grownVerdict N)) q) ∙ onward-verdict e)
+
+pub no-closed-debt : (N : Net) {v : Verdict} → v ≡ debtsVerdict N → v ≡ Fine → closedDebt N ≡ false
+unfolding debtsVerdict
+no-closed-debt N e q = fine-clear _ (sym e ∙ q) .0 0 (lit< tt)
+
+-- ---- the file
+
+refused-file : (d : Decoded) (out : List ℕ) (k p : ℕ) → judged d ≡ Refuses k p → record { answer = Refused k p; out = out } ≡ writtenAfter (rewriterJudged d) (rewrittenOf d) out
+refused-file (bad a b) out k p e = let x : k ≡ a = cc in let y : p ≡ b = cc in λ i. record { answer = Refused (x i) (y i); out = out }
+refused-file (good N) out k p e = sym (ap (λ (v : Verdict). writtenAfter (debtAfter v N) (encode (rewritten N)) out) e)
+
+pub file-refused : (s out : List ℕ) {k p : ℕ} → fileVerdict s ≡ Refuses k p → record { answer = Refused k p; out = out } ≡ rewriteFile s out
+unfolding rewriteFile rewriterVerdict rewrittenFile fileVerdict
+file-refused s out {k} {p} e = refused-file (decode s) out k p e
+
+pub file-taken : {s ts ns order : List ℕ} → Open s ts ns order → (out : List ℕ) → netOutcome (netIn s ts ns) out ≡ rewriteFile s out
+unfolding rewriteFile rewriterVerdict rewrittenFile
+file-taken {s} {ts} {ns} o out =
+    sym (ap (λ (d : Decoded). writtenAfter (rewriterJudged d) (rewrittenOf d) out) (decoded-as s ts ns (o .scanned)) ∙ ap (λ (v : Verdict). writtenAfter (debtAfter v (netIn s ts ns)) (encode (rewritten (netIn s ts ns))) out) (o .fine))
+
+-- ---- what opening leaves
+
+module _ {s ts ns order : List ℕ} (o : Open s ts ns order) (b : Bytes s) where
+  pub net-formed : WellFormed (netIn s ts ns)
+  net-formed = reader-fine (netIn s ts ns) (decode-within s (netIn s ts ns) b (decoded-as s ts ns (o .scanned)) .fields) (o .fine)
+
+  pub tables-came : TablesCame s ts
+  tables-came = tables-as-they-came s ts ns b (o .scanned)

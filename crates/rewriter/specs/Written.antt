@@ -1,7 +1,7 @@
 -- The bytes of the rewritten file, field by field. Assumes nothing.
 use mathlib.Core.Path.{_≡_, refl, sym, ap, ap₂, _∙_}
 use mathlib.Core.List.{List, [], _∷_, _++_, map}
-use Prim.Native.Nat.{ℕ, _+_, _≤_, _<_}
+use Prim.Native.Nat.{ℕ, _+_, _≤_, _<_, zero-le}
 use native.Mathlib.Nat.{zero-add}
 use native.Mathlib.Omega.{arith}
 use lib.ListN.{length, getD, take, drop, length-append, length-take, length-drop}
@@ -19,6 +19,7 @@ use Rattle.behaviour.specs.Run.{zeroWord}
 use Rattle.retiming.specs.Rewrite.{Place, Entry, Reg, places, nodeOf, newTables, timing, rewrittenWith, rewritten}
 use Rattle.retiming.specs.Layout.{noPlace}
 use Rattle.plan.specs.Threes.{concat-next, concat-longer}
+use Rattle.writer.specs.Written.{Puts, puts-more, written-front}
 
 -- ---- the nodes
 
@@ -117,3 +118,9 @@ module _ (s ts ns : List ℕ) where
   unfolding fileBytes
   file-length total =
       omega (arith, length-append (field 1 (1 ∷ []) ++ tablesBefore s ts (length ts) ++ nodesBefore (netIn s ts ns) total) (field 4 []), length-append (field 1 (1 ∷ []) ++ tablesBefore s ts (length ts)) (nodesBefore (netIn s ts ns) total), length-append (field 1 (1 ∷ [])) (tablesBefore s ts (length ts)))
+
+  -- written field after field at the front of an output
+  pub file-puts : (total : ℕ) {b : List ℕ} → fileBytes total ≡ b → {o o₁ o₂ o₃ o₄ : List ℕ} {p₁ p₂ p₃ p₄ : ℕ}
+      → Puts o 0 (field 1 (1 ∷ [])) p₁ o₁ → Puts o₁ p₁ (tablesBefore s ts (length ts)) p₂ o₂ → Puts o₂ p₂ (nodesBefore (netIn s ts ns) total) p₃ o₃ → Puts o₃ p₃ (field 4 []) p₄ o₄ → o₄ ≡ b ++ drop (length b) o
+  unfolding fileBytes
+  file-puts total {b} e {o} h t n x = puts-more zero-le (puts-more zero-le (puts-more zero-le h t) n) x .holds ∙ written-front o (fileBytes total) ∙ ap (λ (l : List ℕ). l ++ drop (length l) o) e
