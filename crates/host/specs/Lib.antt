@@ -1,3 +1,4 @@
 pub mod Code
 pub mod CodeLaws
 pub mod RunLaws
+pub mod RewriteLaws

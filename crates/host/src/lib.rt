@@ -1,12 +1,14 @@
 // The exports for C hosts: include/punqelis.h declares them. A slice is a pointer and a length; the answer is one number.
 use checks::check_file;
 use netlist::Answer;
+use rewriter::rewrite_file;
 use run::reset_state;
 use run::run_clock;
 ghost use mathlib.Core.Path.{_≡_};
 ghost use Prim.Native.Nat.{_≤_};
 ghost use Rattle.netlist.specs.File.{checkAnswer};
 ghost use Rattle.behaviour.specs.Service.{resetFile, runFile};
+ghost use Rattle.retiming.specs.FileRewrite.{rewriteFile};
 ghost use Rattle.host.specs.Code.{codeOf};
 ghost use Rattle.host.specs.CodeLaws.{Within};
 
@@ -63,4 +65,13 @@ pub extern "C" fn punqelis_run(
         × (now (outputs .exit) ≡ runFile (now (file .entry)) (now (state .entry)) (now (inputs .entry)) (now (outputs .entry)) .outputs) ⌝ }
 {
     code(run_clock(file, state, inputs, outputs))
+}
+
+// Rewrites a file so that all its ROMs are clocked: the new file's length, or the refusal, which leaves the output as it was.
+#[no_mangle]
+pub extern "C" fn punqelis_rewrite(file: &[u8], out: &mut [u8]) -> u32
+    ensures { λ r. ⌜ (r ≡ codeOf (rewriteFile (now (file .entry)) (now (out .entry)) .answer))
+        × (now (out .exit) ≡ rewriteFile (now (file .entry)) (now (out .entry)) .out) ⌝ }
+{
+    code(rewrite_file(file, out))
 }

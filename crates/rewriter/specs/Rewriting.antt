@@ -3,11 +3,12 @@ use mathlib.Core.Path.{_≡_, refl, sym, ap, ap₂, _∙_}
 use mathlib.Core.Logic.{⊎-elim}
 use mathlib.Core.Bool.{Bool, true, false, cond}
 use mathlib.Core.List.{List, [], _∷_, _++_}
-use Prim.Native.Nat.{ℕ, _≤_, _<_}
+use Prim.Native.Nat.{ℕ, _≤_, _<_, zero-le}
 use native.Mathlib.Omega.{arith}
 use lib.ListN.{length, drop, length-map}
 use lib.Dec.{ltb, lit<}
-use borrow.Author.Tests.{lt-ltb, le-ltb}
+use borrow.Author.Tests.{lt-ltb, le-ltb, ltb-false}
+use Rattle.lists.specs.BelowLaws.{true-or-false}
 use Rattle.netlist.specs.Net.{Net, size}
 use Rattle.netlist.specs.Verdict.{ofWhole, verdict, readerVerdict}
 use Rattle.netlist.specs.Checks.{WellFormed}
@@ -114,3 +115,26 @@ module _ {s ts ns order : List ℕ} (o : Open s ts ns order) (b : Bytes s) where
 
   pub tables-came : TablesCame s ts
   tables-came = tables-as-they-came s ts ns b (o .scanned)
+
+-- ---- an accepted length is within the output
+
+lengthOf : Answer → ℕ
+lengthOf (Accepted n) = n
+lengthOf (Refused k p) = 0
+
+written-inside : (b out : List ℕ) → lengthOf (written b out .answer) ≤ length out
+unfolding written lengthOf
+written-inside b out =
+    ⊎-elim
+    (λ (e : ltb (length out) (length b) ≡ true). rw e zero-le)
+    (λ (e : ltb (length out) (length b) ≡ false). rw e (ltb-false (length out) (length b) e))
+    (true-or-false (ltb (length out) (length b)))
+
+after-inside : (v : Verdict) (b out : List ℕ) → lengthOf (writtenAfter v b out .answer) ≤ length out
+unfolding lengthOf
+after-inside Fine b out = written-inside b out
+after-inside (Refuses k p) b out = zero-le
+
+pub accepted-inside : (s out : List ℕ) {r : Answer} {n : ℕ} → r ≡ rewriteFile s out .answer → r ≡ Accepted n → n ≤ length out
+unfolding rewriteFile lengthOf
+accepted-inside s out {n = n} e q = let l : lengthOf (Accepted n) ≡ lengthOf (rewriteFile s out .answer) = ap lengthOf (sym q ∙ e) in omega (arith, after-inside (rewriterVerdict s) (rewrittenFile s) out)

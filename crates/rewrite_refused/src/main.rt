@@ -1,0 +1,8 @@
+// The rewriting program once more, with a stored run that is refused: a program has one stored run.
+use libc::STDIN_FILENO;
+use libc::STDOUT_FILENO;
+use rewrite_stream::rewrite_stream;
+
+fn main() {
+    rewrite_stream(STDIN_FILENO, STDOUT_FILENO);
+}

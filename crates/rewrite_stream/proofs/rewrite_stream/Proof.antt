@@ -1,0 +1,71 @@
+-- What was read is a part of the file's room; what is written is within the output's.
+use mathlib.Core.Path.{_≡_, sym, _∙_}
+use Prim.Native.Nat.{ℕ}
+use native.Mathlib.Omega.{arith}
+use lib.Seq.{length-take-le}
+use borrow.Author.Needs.{needs}
+use Rattle.rewriter.specs.Rewriting.{accepted-inside}
+use Rattle.rewrite_stream.specs.Read.{answers}
+use Rattle.rewrite_stream.proofs.rewrite_stream.Statement.{statement}
+use Rattle.rewrite_stream.proofs.rewrite_stream.Tie as tie
+
+slice-aggregate-read-full : tie.Need-slice-aggregate-read-full
+slice-aggregate-read-full c = search needs
+
+read-full-requires : tie.Need-read-full-requires
+read-full-requires c κs = search needs
+
+array-share-prefix-file : tie.Need-array-share-prefix-file
+array-share-prefix-file c = search needs
+
+slice-aggregate-rewrite-file : tie.Need-slice-aggregate-rewrite-file
+slice-aggregate-rewrite-file c = search needs
+
+slice-aggregate-rewrite-file-2 : tie.Need-slice-aggregate-rewrite-file-2
+slice-aggregate-rewrite-file-2 c = search needs
+
+rewrite-file-requires : tie.Need-rewrite-file-requires
+rewrite-file-requires c κs = search needs
+
+enum-known-answer : tie.Need-enum-known-answer
+enum-known-answer c = search needs
+
+array-share-prefix-out : tie.Need-array-share-prefix-out
+array-share-prefix-out c = omega (arith, accepted-inside _ _ (c .before .before .before .before .rewrite-file .ensures .0) (c .before .answer .given .1), c .before .before .before .before .rewrite-file .kept .1 .0)
+
+slice-aggregate-write-all : tie.Need-slice-aggregate-write-all
+slice-aggregate-write-all c = sym (length-take-le _ _ (omega (arith, accepted-inside _ _ (c .before .before .before .before .before .rewrite-file .ensures .0) (c .before .before .answer .given .1), c .before .before .before .before .before .rewrite-file .kept .1 .0)))
+
+write-all-requires : tie.Need-write-all-requires
+write-all-requires c κs = search needs
+
+enum-known-answer-2 : tie.Need-enum-known-answer-2
+enum-known-answer-2 c = search needs
+
+write-refusal-requires : tie.Need-write-refusal-requires
+write-refusal-requires c κs = search needs
+
+returns : tie.Need-returns
+returns c = answers (c .before .before .before .before .before .before .before .before .before .before .read-full .result) (c .before .before .before .before .before .before .before .before .before .before .read-full .last .1 .0) (omega (arith, c .before .before .before .before .before .before .before .before .before .before .read-full .kept .1 .0)) (c .before .before .before .before .before .before .rewrite-file .ensures .0)
+
+returns-2 : tie.Need-returns-2
+returns-2 c = answers (c .before .before .before .before .before .before .before .before .before .read-full .result) (c .before .before .before .before .before .before .before .before .before .read-full .last .1 .0) (omega (arith, c .before .before .before .before .before .before .before .before .before .read-full .kept .1 .0)) (c .before .before .before .before .before .rewrite-file .ensures .0)
+
+pub rewrite-stream-spec : {M : Type 1} → statement M
+rewrite-stream-spec =
+    tie.close
+    (tie.spec
+    slice-aggregate-read-full
+    read-full-requires
+    array-share-prefix-file
+    slice-aggregate-rewrite-file
+    slice-aggregate-rewrite-file-2
+    rewrite-file-requires
+    enum-known-answer
+    array-share-prefix-out
+    slice-aggregate-write-all
+    write-all-requires
+    enum-known-answer-2
+    write-refusal-requires
+    returns
+    returns-2)

@@ -1,0 +1,35 @@
+// What the rewriting program does: it reads a file and writes the rewritten one, or the line `refused 12 0` (number, place).
+use netlist::Answer;
+use rewriter::rewrite_file;
+ghost use Rattle.rewrite_stream.specs.Read.{Answers};
+
+// Writes the line of a refusal.
+fn write_refusal(to: i32, number: u8, place: u16) {
+    io::write_all(to, b"refused ");
+    io::print_decimal(to, number as u64);
+    io::write_all(to, b" ");
+    io::print_decimal(to, place as u64);
+    io::write_all(to, b"\n");
+}
+
+// Rewrites what comes from one stream into another. It answers what the rewriter says of some bytes: those that were read.
+pub fn rewrite_stream(from: i32, to: i32) -> Answer
+    ensures { λ r. ⌜ Answers r ⌝ }
+{
+    // One byte more than check 1 allows, so that a longer input is refused without being read whole.
+    let mut file = [0u8; 46001];
+    let n = io::read_full(from, &mut file);
+    // No rewritten file is longer.
+    let mut out = [0u8; 46000];
+    let answer = rewrite_file(&file[..n], &mut out);
+    match answer {
+        Answer::Accepted(length) => {
+            io::write_all(to, &out[..length]);
+            answer
+        }
+        Answer::Refused(number, place) => {
+            write_refusal(to, number, place);
+            answer
+        }
+    }
+}
