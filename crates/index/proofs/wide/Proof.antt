@@ -1,4 +1,4 @@
--- A word is a number, below 65,536.
+-- A word is below 65,536. Written out, so that a wrong number is refused here and not in what calls it.
 use borrow.Author.Needs.{needs}
 use Rattle.index.proofs.wide.Statement.{statement}
 use Rattle.index.proofs.wide.Tie as tie
