@@ -12,6 +12,14 @@ ghost use Rattle.netlist.specs.Net.{nodeAt, widthAt, elementAt, noTable, isOutp
 ghost use Rattle.netlist.specs.ScanLaws.{Found};
 ghost use Rattle.netlist.specs.File.{netIn};
 
+// The width of a node that is not there.
+const NO_NODE_WIDTH: u8 = 1;
+
+// The address bits and the width of a table that is not there.
+const NO_TABLE_BITS: u8 = 1;
+
+const NO_TABLE_WIDTH: u8 = 1;
+
 pub fn wide(x: u16) -> usize
     ensures { λ r. ⌜ (r ≡ x) × (r ≤ 65535) ⌝ }
 {
@@ -32,7 +40,7 @@ pub fn width(file: &[u8], tables: &[u16], nodes: &[u16], v: usize) -> u8
     if v < nodes.len() {
         width_at(file, wide(nodes[v]))
     } else {
-        1
+        NO_NODE_WIDTH
     }
 }
 
@@ -54,7 +62,7 @@ pub fn address_bits(file: &[u8], tables: &[u16], nodes: &[u16], k: usize) -> u8
     if k < tables.len() {
         table_bits(file, wide(tables[k]))
     } else {
-        1
+        NO_TABLE_BITS
     }
 }
 
@@ -65,6 +73,6 @@ pub fn word_width(file: &[u8], tables: &[u16], nodes: &[u16], k: usize) -> u8
     if k < tables.len() {
         table_width(file, wide(tables[k]))
     } else {
-        1
+        NO_TABLE_WIDTH
     }
 }

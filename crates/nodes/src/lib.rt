@@ -182,25 +182,18 @@ pub fn source_count(e: Element) -> usize
 {
     match e {
         Element::Input => 0,
-        Element::Output => 1,
-        Element::Register(_) => 1,
-        Element::Async(_) => 1,
-        Element::Clocked(_, _) => 1,
         Element::Gate(op) => op_sources(op),
+        _ => 1,
     }
 }
 
-// Where the first source of an element stands.
+// Where the first source of an element stands: behind kind and width, and a gate's behind its operation.
 pub fn first_source(e: Element) -> usize
     ensures { λ r. ⌜ r ≡ firstSource e ⌝ }
 {
     match e {
         Element::Gate(_) => 3,
-        Element::Input => 2,
-        Element::Output => 2,
-        Element::Register(_) => 2,
-        Element::Async(_) => 2,
-        Element::Clocked(_, _) => 2,
+        _ => 2,
     }
 }
 

@@ -278,7 +278,8 @@ pub fn width_at(file: &[u8], at: usize) -> u8
     requires { ⌜ NodeAt (now file) at ⌝ }
     ensures { λ r. ⌜ r ≡ nodeIn (now (file .entry)) at .width ⌝ }
 {
-    file[at + 4]
+    let after_kind = at + 4;
+    file[after_kind]
 }
 
 // Of the table whose field stands at an offset: its address bits, its width, and its words as a part of the file.
@@ -286,14 +287,16 @@ pub fn table_bits(file: &[u8], at: usize) -> u8
     requires { ⌜ TableAt (now file) at ⌝ }
     ensures { λ r. ⌜ r ≡ tableIn (now (file .entry)) at .bits ⌝ }
 {
-    file[at + 3]
+    let after_length = at + 3;
+    file[after_length]
 }
 
 pub fn table_width(file: &[u8], at: usize) -> u8
     requires { ⌜ TableAt (now file) at ⌝ }
     ensures { λ r. ⌜ r ≡ tableIn (now (file .entry)) at .wide ⌝ }
 {
-    file[at + 4]
+    let after_bits = at + 4;
+    file[after_bits]
 }
 
 pub fn table_part(file: &[u8], at: usize) -> &[u8]

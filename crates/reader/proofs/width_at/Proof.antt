@@ -12,8 +12,8 @@ use lib.Seq.{getD-drop, getD-take}
 use Rattle.reader.proofs.width_at.Statement.{statement}
 use Rattle.reader.proofs.width_at.Tie as tie
 
-add-result : tie.Need-add-result
-add-result c = search needs
+add-after-kind : tie.Need-add-after-kind
+add-after-kind c = search needs
 
 shared-slice-read-result : tie.Need-shared-slice-read-result
 shared-slice-read-result c =
@@ -35,4 +35,4 @@ returns c =
     sym (node-width (content s at) (p .good) ∙ getD-take (lengthAt s at) (drop (at + 3) s) 1 0 (omega arith) ∙ getD-drop (at + 3) s 1 0 ∙ ap (λ (k : ℕ). getD s k 0) (let e : at + 3 + 1 ≡ at + 4 = omega arith in e))
 
 pub width-at-spec : {M : Type 1} → statement M
-width-at-spec = tie.close (tie.spec add-result shared-slice-read-result returns)
+width-at-spec = tie.close (tie.spec add-after-kind shared-slice-read-result returns)
