@@ -1,11 +1,11 @@
 // Checks 9 and 10: the lowest node that reaches itself, searched for only where the nodes cannot all be put in order.
+use areas::flag_at;
+use areas::put_flag;
 use index::node;
 use index::wide;
 use order::Steps;
 use order::counted;
-use order::flag_at;
 use order::order_with_hint;
-use order::put_flag;
 ghost use mathlib.Core.Path.{_≡_};
 ghost use mathlib.Core.Bool.{_||_};
 ghost use Prim.Native.Nat.{_+_, _<_, _≤_};

@@ -1,11 +1,11 @@
 // A depth-first walk that proposes an order: down to what a node reads, back with the node placed. Nobody trusts it; it saves passes.
 use super::Steps;
 use super::counted;
-use super::flag_at;
-use super::number_at;
 use super::place;
-use super::put_flag;
-use super::put_number;
+use areas::flag_at;
+use areas::number_at;
+use areas::put_flag;
+use areas::put_number;
 use index::node;
 use index::wide;
 ghost use Prim.Native.Nat.{_+_, _<_, _≤_};

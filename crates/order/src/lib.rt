@@ -2,6 +2,9 @@
 // A depth-first walk proposes the order and nobody trusts it: a node is placed only where all that it reads is placed.
 mod depth_first;
 
+use areas::flag_at;
+use areas::put_flag;
+use areas::put_number;
 use depth_first::walk_all;
 use index::node;
 use index::wide;
@@ -9,7 +12,7 @@ use netlist::Element;
 use nodes::source_count;
 ghost use mathlib.Core.Path.{_≡_};
 ghost use Prim.Native.Nat.{_+_, _<_, _≤_};
-ghost use lib.ListN.{length, getD, set};
+ghost use lib.ListN.{length, getD};
 ghost use Rattle.lists.specs.Lists.{allBelow};
 ghost use Rattle.netlist.specs.Net.{size, Sourced};
 ghost use Rattle.netlist.specs.ScanLaws.{Found};
@@ -56,35 +59,6 @@ pub fn counted(e: Element, steps: Steps) -> usize
     match steps {
         Steps::InClock => counted_in_clock(e),
         Steps::InRegisters => counted_in_registers(e),
-    }
-}
-
-// Total reads and writes of work areas: past the end there is 0, and nothing is written.
-pub fn flag_at(flags: &[u8], i: usize) -> u8
-    ensures { λ r. ⌜ r ≡ getD (now (flags .entry)) i 0 ⌝ }
-{
-    if i < flags.len() { flags[i] } else { 0 }
-}
-
-pub fn number_at(numbers: &[u16], i: usize) -> u16
-    ensures { λ r. ⌜ r ≡ getD (now (numbers .entry)) i 0 ⌝ }
-{
-    if i < numbers.len() { numbers[i] } else { 0 }
-}
-
-pub fn put_flag(flags: &mut [u8], i: usize, x: u8)
-    ensures { λ _. ⌜ now (flags .exit) ≡ set (now (flags .entry)) i x ⌝ }
-{
-    if i < flags.len() {
-        flags[i] = x;
-    }
-}
-
-pub fn put_number(numbers: &mut [u16], i: usize, x: u16)
-    ensures { λ _. ⌜ now (numbers .exit) ≡ set (now (numbers .entry)) i x ⌝ }
-{
-    if i < numbers.len() {
-        numbers[i] = x;
     }
 }
 

@@ -1,4 +1,5 @@
 // Checks 6, 7 and 8 over an indexed netlist: each node by itself, then the lowest that breaks the rule.
+use areas::put_flag;
 use index::address_bits;
 use index::node;
 use index::output_port;
@@ -14,7 +15,7 @@ ghost use mathlib.Core.List.{List};
 ghost use mathlib.Core.Bool.{_&&_, _||_};
 ghost use lib.Dec.{eqb};
 ghost use Prim.Native.Nat.{ℕ, _+_, _<_, _≤_};
-ghost use lib.ListN.{length, getD, set};
+ghost use lib.ListN.{length, getD};
 ghost use Rattle.lists.specs.Lists.{anyBelow, lowest, one};
 ghost use Rattle.netlist.specs.Net.{Table, noTable, size, elementAt, isInput, isOutput, operands};
 ghost use Rattle.netlist.specs.Reach.{readsTest};
@@ -217,23 +218,14 @@ pub fn lowest_bad_width(file: &[u8], tables: &[u16], nodes: &[u16]) -> usize
 
 // ---- 8: no reader, and not a port
 
-// Marks a node that is read. (Every source is a node where check 6 passed; a mark past the end would say nothing.)
-fn mark(marks: &mut [u8], u: usize)
-    ensures { λ _. ⌜ now (marks .exit) ≡ set (now (marks .entry)) u 1 ⌝ }
-{
-    if u < marks.len() {
-        marks[u] = 1;
-    }
-}
-
-// Marks the first n sources of a node.
+// Marks the first n sources of a node. (Every source is a node where check 6 passed; a mark past the end would say nothing.)
 fn mark_sources(sources: [u16; 3], n: usize, marks: &mut [u8])
     requires { ⌜ n ≤ 3 ⌝ }
     ensures { λ _. ⌜ Marked sources n (now (marks .entry)) (now (marks .exit)) ⌝ }
 {
     let mut p: usize = 0;
     while p < n {
-        mark(marks, wide(sources[p]));
+        put_flag(marks, wide(sources[p]), 1);
         p = p + 1;
     }
 }

@@ -28,8 +28,8 @@ array-read-wide c = omega arith
 wide-requires : tie.Need-wide-requires Inv-loop μ-loop
 wide-requires c κs = search needs
 
-mark-requires : tie.Need-mark-requires Inv-loop μ-loop
-mark-requires c κs = search needs
+put-flag-requires : tie.Need-put-flag-requires Inv-loop μ-loop
+put-flag-requires c κs = search needs
 
 add-p : tie.Need-add-p Inv-loop μ-loop
 add-p c = omega arith
@@ -40,7 +40,7 @@ loop-less c = omega arith
 loop-again : tie.Need-loop-again Inv-loop μ-loop
 loop-again c =
     let i = c .before .before .before .before .before .before .loop .inv .1 in
-    let e = c .before .before .mark .ensures ∙ ap (λ (k : ℕ). set (c .before .before .before .before .before .before .loop .marks) k 1) (c .before .before .before .wide .ensures .0) in
+    let e = c .before .before .put-flag .ensures ∙ ap (λ (k : ℕ). set (c .before .before .before .before .before .before .loop .marks) k 1) (c .before .before .before .wide .ensures .0) in
     (omega arith, subst (λ (l : List ℕ). Marked (c .before .before .before .before .before .before .before .before .args .t1) (c .before .before .before .before .before .before .loop .p + 1) (c .before .before .before .before .before .before .before .before .args .marks .now) l) (sym e) (marked-more i))
 
 same-length : tie.Need-same-length Inv-loop μ-loop
@@ -61,7 +61,7 @@ mark-sources-spec =
     mul-wide
     array-read-wide
     wide-requires
-    mark-requires
+    put-flag-requires
     add-p
     loop-less
     loop-again

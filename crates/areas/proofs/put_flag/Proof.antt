@@ -2,8 +2,8 @@
 use mathlib.Core.Path.{sym}
 use lib.Seq.{set-out}
 use borrow.Author.Needs.{needs}
-use Rattle.order.proofs.put_flag.Statement.{statement}
-use Rattle.order.proofs.put_flag.Tie as tie
+use Rattle.areas.proofs.put_flag.Statement.{statement}
+use Rattle.areas.proofs.put_flag.Tie as tie
 
 slice-write-flags : tie.Need-slice-write-flags
 slice-write-flags c = search needs

@@ -2,8 +2,8 @@
 use mathlib.Core.Path.{sym}
 use lib.ListN.{List·getD-eq-default}
 use borrow.Author.Needs.{needs}
-use Rattle.order.proofs.flag_at.Statement.{statement}
-use Rattle.order.proofs.flag_at.Tie as tie
+use Rattle.areas.proofs.flag_at.Statement.{statement}
+use Rattle.areas.proofs.flag_at.Tie as tie
 
 shared-slice-read-result : tie.Need-shared-slice-read-result
 shared-slice-read-result c = search needs

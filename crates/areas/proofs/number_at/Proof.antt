@@ -2,8 +2,8 @@
 use mathlib.Core.Path.{sym}
 use lib.ListN.{List·getD-eq-default}
 use borrow.Author.Needs.{needs}
-use Rattle.order.proofs.number_at.Statement.{statement}
-use Rattle.order.proofs.number_at.Tie as tie
+use Rattle.areas.proofs.number_at.Statement.{statement}
+use Rattle.areas.proofs.number_at.Tie as tie
 
 mul-result : tie.Need-mul-result
 mul-result c = search needs

@@ -2,8 +2,8 @@
 use mathlib.Core.Path.{sym}
 use lib.Seq.{set-out}
 use borrow.Author.Needs.{needs}
-use Rattle.order.proofs.put_number.Statement.{statement}
-use Rattle.order.proofs.put_number.Tie as tie
+use Rattle.areas.proofs.put_number.Statement.{statement}
+use Rattle.areas.proofs.put_number.Tie as tie
 
 mul-numbers : tie.Need-mul-numbers
 mul-numbers c = search needs
