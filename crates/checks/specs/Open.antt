@@ -10,6 +10,7 @@ use Rattle.netlist.specs.File.{netIn, fileVerdict}
 use Rattle.netlist.specs.declared.Scanned.{Scanned}
 use Rattle.netlist.specs.declared.Scanned.the-variants.{Refuse, Fields}
 use Rattle.netlist.specs.declared.Verdict.the-variants.{Fine, Refuses}
+use Rattle.columns.specs.Columns.{Columns, Widths}
 use Rattle.order.specs.Order.{Complete}
 
 -- checks 9 and 10
@@ -26,3 +27,9 @@ pub record Open (s ts ns order : List ℕ) : Type 0 where
 pub data Opened (s us vs order : List ℕ) : Scanned → Type 0 where
   turned-away : {k p : ℕ} → fileVerdict s ≡ Refuses k p → Opened s us vs order (Refuse k p)
   taken : {t n : ℕ} → t ≤ length us → n ≤ length vs → Open s (take t us) (take n vs) order → Opened s us vs order (Fields t n)
+
+-- and in those of the columns
+pub data Columned (s us vs codes sources widths : List ℕ) : Scanned → Type 0 where
+  no-columns : {k p : ℕ} → Columned s us vs codes sources widths (Refuse k p)
+  columned : {t n : ℕ} → Columns (netIn s (take t us) (take n vs)) codes sources (length (take n vs)) → Widths (netIn s (take t us) (take n vs)) widths (length (take n vs))
+      → Columned s us vs codes sources widths (Fields t n)

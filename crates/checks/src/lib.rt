@@ -1,4 +1,5 @@
 // The reader's layer as run and rewriter see it: checks 1 to 10, a node by its number, a table's words.
+use columns::fill_columns;
 use cycles::lowest_cycle;
 use index::node;
 use index::wide;
@@ -10,9 +11,9 @@ use netlist::Verdict;
 use order::Steps;
 use reader::scan_fields;
 use reader::table_part;
-use rules::lowest_bad_source;
-use rules::lowest_bad_width;
-use rules::lowest_unread;
+use rules::readers::lowest_unread;
+use rules::sources::lowest_bad_source;
+use rules::widths::lowest_bad_width;
 ghost use mathlib.Core.Path.{_≡_};
 ghost use Prim.Native.Nat.{_≤_};
 ghost use lib.ListN.{length};
@@ -20,8 +21,9 @@ ghost use Rattle.netlist.specs.Net.{inClock, Sourced};
 ghost use Rattle.netlist.specs.Verdict.{verdict, readerVerdict};
 ghost use Rattle.netlist.specs.ScanLaws.{Found};
 ghost use Rattle.netlist.specs.File.{netIn, fileVerdict, checkAnswer};
+ghost use Rattle.columns.specs.Columns.{Columns, Widths};
 ghost use Rattle.order.specs.Order.{Complete};
-ghost use Rattle.checks.specs.Open.{fromNine, Opened};
+ghost use Rattle.checks.specs.Open.{fromNine, Opened, Columned};
 ghost use Rattle.checks.specs.Services.{nodeOfFile, wordsOfFile};
 
 // A node, or why there is none. (An enum that holds an array is not covered: the answer stands beside the node.)
@@ -31,58 +33,123 @@ pub struct NodeAnswer {
 }
 
 // Checks 9 and 10.
-fn cycles_verdict(file: &[u8], tables: &[u16], nodes: &[u16], order: &mut [u16]) -> Verdict
-    requires { ⌜ Found (now file) (now tables) (now nodes) × Sourced (netIn (now file) (now tables) (now nodes)) × (1024 ≤ length (now order)) ⌝ }
+fn cycles_verdict(
+    file: &[u8],
+    tables: &[u16],
+    nodes: &[u16],
+    order: &mut [u16],
+    codes: &[u8],
+    sources: &[u16],
+) -> Verdict
+    requires { ⌜ Found (now file) (now tables) (now nodes) × Sourced (netIn (now file) (now tables) (now nodes)) × (1024 ≤ length (now order))
+        × Columns (netIn (now file) (now tables) (now nodes)) (now codes) (now sources) (length (now nodes)) ⌝ }
     ensures { λ r. ⌜ (r ≡ verdict (fromNine (netIn (now (file .entry)) (now (tables .entry)) (now (nodes .entry)))))
         × (r ≡ Verdict.Fine → Complete inClock (netIn (now (file .entry)) (now (tables .entry)) (now (nodes .entry))) (now (order .exit))) ⌝ }
 {
     let n = nodes.len();
-    let loop_node = lowest_cycle(file, tables, nodes, Steps::InClock, order);
+    let loop_node = lowest_cycle(file, tables, nodes, Steps::InClock, order, codes, sources);
     if loop_node < n {
         return Verdict::Refuses(9, loop_node as u16);
     }
     let mut spare = [0u16; 1024];
-    let ring_node = lowest_cycle(file, tables, nodes, Steps::InRegisters, &mut spare);
+    let ring_node = lowest_cycle(
+        file,
+        tables,
+        nodes,
+        Steps::InRegisters,
+        &mut spare,
+        codes,
+        sources,
+    );
     if ring_node < n {
         return Verdict::Refuses(10, ring_node as u16);
     }
     Verdict::Fine
 }
 
-// Checks 6 to 10.
-fn net_verdict(file: &[u8], tables: &[u16], nodes: &[u16], order: &mut [u16]) -> Verdict
-    requires { ⌜ Found (now file) (now tables) (now nodes) × (1024 ≤ length (now order)) ⌝ }
+// Checks 6 to 10, over columns filled here.
+fn net_verdict(
+    file: &[u8],
+    tables: &[u16],
+    nodes: &[u16],
+    order: &mut [u16],
+    codes: &mut [u8],
+    widths: &mut [u8],
+    sources: &mut [u16],
+) -> Verdict
+    requires { ⌜ Found (now file) (now tables) (now nodes) × (1024 ≤ length (now order))
+        × (1024 ≤ length (now codes)) × (1024 ≤ length (now widths)) × (3072 ≤ length (now sources)) ⌝ }
     ensures { λ r. ⌜ (r ≡ readerVerdict (netIn (now (file .entry)) (now (tables .entry)) (now (nodes .entry))))
-        × (r ≡ Verdict.Fine → Complete inClock (netIn (now (file .entry)) (now (tables .entry)) (now (nodes .entry))) (now (order .exit))) ⌝ }
+        × (r ≡ Verdict.Fine → Complete inClock (netIn (now (file .entry)) (now (tables .entry)) (now (nodes .entry))) (now (order .exit)))
+        × Columns (netIn (now (file .entry)) (now (tables .entry)) (now (nodes .entry))) (now (codes .exit)) (now (sources .exit)) (length (now (nodes .entry)))
+        × Widths (netIn (now (file .entry)) (now (tables .entry)) (now (nodes .entry))) (now (widths .exit)) (length (now (nodes .entry))) ⌝ }
 {
     let n = nodes.len();
-    let source = lowest_bad_source(file, tables, nodes);
+    fill_columns(file, tables, nodes, codes, widths, sources);
+    let source = lowest_bad_source(file, tables, nodes, codes, sources);
     if source < n {
         return Verdict::Refuses(6, source as u16);
     }
-    let width = lowest_bad_width(file, tables, nodes);
+    let width = lowest_bad_width(file, tables, nodes, codes, sources, widths);
     if width < n {
         return Verdict::Refuses(7, width as u16);
     }
-    let unread = lowest_unread(file, tables, nodes);
+    let unread = lowest_unread(file, tables, nodes, codes, sources);
     if unread < n {
         return Verdict::Refuses(8, unread as u16);
     }
-    cycles_verdict(file, tables, nodes, order)
+    cycles_verdict(file, tables, nodes, order, codes, sources)
 }
 
-// Checks 1 to 10, with the index of the file and an order of its nodes left in work areas for whoever goes on.
-pub fn open_file(file: &[u8], tables: &mut [u16], nodes: &mut [u16], order: &mut [u16]) -> Scanned
-    requires { ⌜ (16 ≤ length (now tables)) × (1024 ≤ length (now nodes)) × (1024 ≤ length (now order)) ⌝ }
-    ensures { λ r. ⌜ Opened (now (file .entry)) (now (tables .exit)) (now (nodes .exit)) (now (order .exit)) r ⌝ }
+// Checks 1 to 10, with the index of the file, an order of its nodes and their columns left in work areas for whoever goes on.
+pub fn open_columns(
+    file: &[u8],
+    tables: &mut [u16],
+    nodes: &mut [u16],
+    order: &mut [u16],
+    codes: &mut [u8],
+    widths: &mut [u8],
+    sources: &mut [u16],
+) -> Scanned
+    requires { ⌜ (16 ≤ length (now tables)) × (1024 ≤ length (now nodes)) × (1024 ≤ length (now order))
+        × (1024 ≤ length (now codes)) × (1024 ≤ length (now widths)) × (3072 ≤ length (now sources)) ⌝ }
+    ensures { λ r. ⌜ Opened (now (file .entry)) (now (tables .exit)) (now (nodes .exit)) (now (order .exit)) r
+        × Columned (now (file .entry)) (now (tables .exit)) (now (nodes .exit)) (now (codes .exit)) (now (sources .exit)) (now (widths .exit)) r ⌝ }
 {
     match scan_fields(file, tables, nodes) {
         Scanned::Refuse(number, place) => Scanned::Refuse(number, place),
-        Scanned::Fields(t, n) => match net_verdict(file, &tables[..t], &nodes[..n], order) {
+        Scanned::Fields(t, n) => match net_verdict(
+            file,
+            &tables[..t],
+            &nodes[..n],
+            order,
+            codes,
+            widths,
+            sources,
+        ) {
             Verdict::Refuses(number, place) => Scanned::Refuse(number, place),
             Verdict::Fine => Scanned::Fields(t, n),
         },
     }
+}
+
+// The same for whoever needs no columns.
+pub fn open_file(file: &[u8], tables: &mut [u16], nodes: &mut [u16], order: &mut [u16]) -> Scanned
+    requires { ⌜ (16 ≤ length (now tables)) × (1024 ≤ length (now nodes)) × (1024 ≤ length (now order)) ⌝ }
+    ensures { λ r. ⌜ Opened (now (file .entry)) (now (tables .exit)) (now (nodes .exit)) (now (order .exit)) r ⌝ }
+{
+    let mut codes = [0u8; 1024];
+    let mut widths = [0u8; 1024];
+    let mut sources = [0u16; 3072];
+    open_columns(
+        file,
+        tables,
+        nodes,
+        order,
+        &mut codes,
+        &mut widths,
+        &mut sources,
+    )
 }
 
 // Checks a file: accepted with its length, or the refusal.

@@ -1,11 +1,11 @@
 // Checks 9 and 10: the lowest node that reaches itself, searched for only where the nodes cannot all be put in order.
+use areas::flag_at;
+use areas::put_flag;
 use index::node;
 use index::wide;
 use order::Steps;
 use order::counted;
-use order::flag_at;
 use order::order_with_hint;
-use order::put_flag;
 ghost use mathlib.Core.Path.{_≡_};
 ghost use mathlib.Core.Bool.{_||_};
 ghost use Prim.Native.Nat.{_+_, _<_, _≤_};
@@ -16,6 +16,7 @@ ghost use Rattle.netlist.specs.Net.{size, Sourced};
 ghost use Rattle.netlist.specs.Reach.{reachesItself};
 ghost use Rattle.netlist.specs.ScanLaws.{Found};
 ghost use Rattle.netlist.specs.File.{netIn};
+ghost use Rattle.columns.specs.Columns.{Columns};
 ghost use Rattle.order.specs.Pass.{on};
 ghost use Rattle.order.specs.Order.{classOf, Complete};
 ghost use Rattle.cycles.specs.Spread.{touches, Reached, ReachedOnce, ReachedPass};
@@ -181,14 +182,27 @@ pub fn lowest_cycle(
     nodes: &[u16],
     steps: Steps,
     order: &mut [u16],
+    codes: &[u8],
+    sources: &[u16],
 ) -> usize
-    requires { ⌜ Found (now file) (now tables) (now nodes) × Sourced (netIn (now file) (now tables) (now nodes)) × (1024 ≤ length (now order)) ⌝ }
+    requires { ⌜ Found (now file) (now tables) (now nodes) × Sourced (netIn (now file) (now tables) (now nodes)) × (1024 ≤ length (now order))
+        × Columns (netIn (now file) (now tables) (now nodes)) (now codes) (now sources) (length (now nodes)) ⌝ }
     ensures { λ r. ⌜ (r ≡ lowest (length (now (nodes .entry))) (reachesItself (classOf steps) (netIn (now (file .entry)) (now (tables .entry)) (now (nodes .entry)))))
         × (r ≡ length (now (nodes .entry)) → Complete (classOf steps) (netIn (now (file .entry)) (now (tables .entry)) (now (nodes .entry))) (now (order .exit))) ⌝ }
 {
     let mut flags = [0u8; 1024];
     let mut hint = [0u16; 1024];
-    let placed = order_with_hint(file, tables, nodes, steps, &mut flags, order, &mut hint);
+    let placed = order_with_hint(
+        file,
+        tables,
+        nodes,
+        steps,
+        &mut flags,
+        order,
+        &mut hint,
+        codes,
+        sources,
+    );
     if placed == nodes.len() {
         return placed;
     }

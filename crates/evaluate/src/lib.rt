@@ -1,9 +1,9 @@
 // The words of all nodes in one clock: the lent rows of words are loaded, then each node is evaluated after what it reads.
+use areas::number_at;
+use areas::put_number;
 use gates::gate;
 use index::wide;
 use index::width;
-use order::number_at;
-use order::put_number;
 use reader::table_part;
 use words::Op;
 use words::fits_width;

@@ -1,11 +1,11 @@
 // The first words of a netlist: it is run from reset, with all inputs 0, and the words that are wanted are taken clock by clock.
+use areas::number_at;
+use areas::put_number;
 use evaluate::Row;
 use evaluate::evaluate;
 use evaluate::in_row;
 use index::node;
 use index::wide;
-use order::number_at;
-use order::put_number;
 use run::next_word;
 use run::reset_word;
 ghost use mathlib.Core.Path.{_≡_};

@@ -1,14 +1,14 @@
 // The leads of an indexed netlist, and with them the checks 11 and 12. Numbers from 0 up are raised until no reader asks more of what it reads.
 mod worklist;
 
+use areas::flag_at;
+use areas::number_at;
+use areas::put_flag;
 use index::node;
 use index::wide;
 use netlist::Element;
 use netlist::Verdict;
 use nodes::source_count;
-use order::flag_at;
-use order::number_at;
-use order::put_flag;
 use worklist::spread;
 ghost use mathlib.Core.Path.{_≡_};
 ghost use Prim.Native.Nat.{ℕ, _+_, _<_, _≤_};

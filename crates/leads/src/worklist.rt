@@ -1,11 +1,11 @@
 // A worklist: nodes whose leads were raised wait on a stack until they raise what they read. It saves passes, and nobody trusts it.
 use super::relax;
+use areas::flag_at;
+use areas::number_at;
+use areas::put_flag;
 use index::node;
 use index::wide;
 use nodes::source_count;
-use order::flag_at;
-use order::number_at;
-use order::put_flag;
 ghost use Prim.Native.Nat.{_+_, _*_, _≤_};
 ghost use Rattle.netlist.specs.ScanLaws.{Found};
 ghost use Rattle.netlist.specs.File.{netIn};

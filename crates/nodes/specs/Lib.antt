@@ -1,2 +1,3 @@
 pub mod Room
 pub mod Unchecked
+pub mod Code

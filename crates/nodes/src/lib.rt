@@ -17,6 +17,7 @@ ghost use Rattle.lists.specs.Paths.{pick};
 ghost use Rattle.words.specs.Words.{word};
 ghost use Rattle.words.specs.Gates.{operandsOf};
 ghost use Rattle.netlist.specs.Net.{operands};
+ghost use Rattle.nodes.specs.Code.{sourcesByCode, clockByCode};
 ghost use Rattle.netlist.specs.NodeField.{gateLength, plainOp, opRead, kindRead, elementRead, nodeRead, sourcesFrom, firstSource};
 
 // The length of a gate's content.
@@ -187,6 +188,26 @@ pub fn source_count(e: Element) -> usize
     }
 }
 
+// The elements by one number, their code: the kinds, where each operation of a gate counts as a kind.
+const SOURCES: [usize; 17] = [0, 1, 1, 1, 1, 0, 1, 2, 2, 2, 2, 2, 2, 2, 3, 1, 2];
+
+const IN_CLOCK: [usize; 17] = [0, 1, 0, 1, 0, 0, 1, 2, 2, 2, 2, 2, 2, 2, 3, 1, 2];
+
+// How many sources an element of a code has, and how many of them count within the clock.
+pub fn code_sources(code: usize) -> usize
+    requires { ⌜ code < 17 ⌝ }
+    ensures { λ r. ⌜ (r ≡ getD sourcesByCode code 0) × (r ≤ 3) ⌝ }
+{
+    SOURCES[code]
+}
+
+pub fn code_in_clock(code: usize) -> usize
+    requires { ⌜ code < 17 ⌝ }
+    ensures { λ r. ⌜ (r ≡ getD clockByCode code 0) × (r ≤ 3) ⌝ }
+{
+    IN_CLOCK[code]
+}
+
 // Where the first source of an element stands: behind kind and width, and a gate's behind its operation.
 pub fn first_source(e: Element) -> usize
     ensures { λ r. ⌜ r ≡ firstSource e ⌝ }
@@ -197,12 +218,25 @@ pub fn first_source(e: Element) -> usize
     }
 }
 
-// The word at a place, or 0 where i is not below n.
+// The word at a place, where it stands whole.
+fn word_or_zero(s: &[u8], at: usize) -> u16
+    ensures { λ r. ⌜ (at + 1 < length (now (s .entry)) → r ≡ word (now (s .entry)) at) ⌝ }
+{
+    if at < s.len() {
+        if 1 < s.len() - at {
+            return word_at(s, at);
+        }
+    }
+    0
+}
+
+// The word at a place, or 0 where i is not below n. It is read in any case: how many sources a node has follows no pattern, and a branch on it would be predicted wrong.
 fn word_if(s: &[u8], at: usize, i: usize, n: usize) -> u16
     requires { ⌜ (i < n → at + 1 < length (now s)) ⌝ }
     ensures { λ r. ⌜ r ≡ pick (ltb i n) (word (now (s .entry)) at) 0 ⌝ }
 {
-    if i < n { word_at(s, at) } else { 0 }
+    let word = word_or_zero(s, at);
+    if i < n { word } else { 0 }
 }
 
 // The sources of a node's record.

@@ -1,24 +1,44 @@
 -- A try at one node, over plain values. Assumes nothing.
-use mathlib.Core.Path.{_≡_, sym, ap, subst, _∙_}
-use mathlib.Core.Bool.{Bool, true}
+use mathlib.Core.Path.{_≡_, refl, sym, ap, subst, _∙_}
+use mathlib.Core.Bool.{Bool, true, true≢false}
 use mathlib.Core.List.{List}
-use Prim.Native.Nat.{ℕ, _+_, _≤_, _<_}
+use Prim.Native.Nat.{ℕ, _+_, _*_, _≤_, _<_}
+use native.Mathlib.Omega.{arith}
 use lib.ListN.{getD, set}
 use borrow.Author.Tests.{le-ltb}
-use Rattle.lists.specs.Lists.{allBelow}
-use Rattle.netlist.specs.Net.{Class, Net, size, nodeAt, elementAt, source, Sourced}
-use Rattle.netlist.specs.declared.Node.{Node}
+use Rattle.lists.specs.Lists.{one, allBelow}
+use Rattle.netlist.specs.Net.{Class, Net, size, elementAt, source, isRegister, Sourced}
+use Rattle.netlist.specs.declared.Element.{Element}
+use Rattle.netlist.specs.declared.Element.the-variants.{Input, Output, Register, Async, Clocked, Gate}
+use Rattle.nodes.specs.Code.{codeOf}
+use Rattle.columns.specs.Columns.{Columns, source-is, all-same}
 use Rattle.order.specs.Pass.{on, Waiting, once-more, swept-rest}
 use Rattle.order.specs.Order.{Placed, ready, PlacedOnce, PlacedPass}
-use Rattle.order.specs.OrderLaws.{placed-more}
+use Rattle.order.specs.OrderLaws.{placed-more, full}
+
+-- the steps into registers, by the code
+pub register-counts : (e : Element) → codeOf e ≡ 2 → 1 ≡ one (isRegister e)
+register-counts Input q = absurd (omega arith)
+register-counts Output q = absurd (omega arith)
+register-counts (Register r) q = refl
+register-counts (Async m) q = absurd (omega arith)
+register-counts (Clocked m r) q = absurd (omega arith)
+register-counts (Gate o) q = absurd (omega arith)
+
+pub other-counts : (e : Element) → (codeOf e ≡ 2 → ⊥) → 0 ≡ one (isRegister e)
+other-counts Input q = refl
+other-counts Output q = refl
+other-counts (Register r) q = absurd (q refl)
+other-counts (Async m) q = refl
+other-counts (Clocked m r) q = refl
+other-counts (Gate o) q = refl
 
 module _ (K : Class) (N : Net) where
-  readyNode : List ℕ → Node → Bool
-  readyNode flags x = allBelow (K .of (x .element)) (λ p. on flags (getD (x .sources) p 0))
-
-  pub ready-is : (flags : List ℕ) (v : ℕ) (x : Node) → x ≡ nodeAt N v → (n : ℕ) → n ≡ K .of (x .element) → allBelow n (λ p. on flags (getD (x .sources) p 0)) ≡ ready K N flags v
-  unfolding readyNode elementAt source
-  ready-is flags v x e n q = ap (λ (m : ℕ). allBelow m (λ p. on flags (getD (x .sources) p 0))) q ∙ ap (readyNode flags) e
+  pub ready-is : {codes sources : List ℕ} {m : ℕ} → Columns N codes sources m → (flags : List ℕ) (v : ℕ) → v < m → (n : ℕ) → n ≡ K .of (elementAt N v) → n ≤ 3
+      → allBelow n (λ p. on flags (getD sources (3 * v + p) 0)) ≡ ready K N flags v
+  ready-is {codes} {sources} t flags v h n q l =
+      all-same n (λ p. on flags (getD sources (3 * v + p) 0)) (λ p. on flags (source N v p)) (λ p a. ap (on flags) (source-is N t v p (3 * v + p) h (omega arith) refl))
+      ∙ ap (λ (k : ℕ). allBelow k (λ p. on flags (source N v p))) q
 
   pub placed-once : {flags order f o : List ℕ} {k v : ℕ} → Placed K N flags order k → Sourced N → v < size N → getD flags v 0 ≤ 0 → ready K N flags v ≡ true → f ≡ set flags v 1 → o ≡ set order k v → PlacedOnce K N flags f o k (k + 1) v
   placed-once {flags} {order} {f} {o} {k} {v} t sourced l off all p q =
@@ -26,3 +46,7 @@ module _ (K : Class) (N : Net) where
 
   pub placed-rest : {flags₀ flags order : List ℕ} {k₀ k i : ℕ} → PlacedPass K N flags₀ flags order k₀ k i → k ≡ k₀ → Placed K N flags order k₀ × Waiting (ready K N) flags i
   placed-rest {flags₀} {flags} {order} {k₀} {k} {i} s e = (subst (λ (m : ℕ). Placed K N flags order m) e (s .holds), swept-rest s e)
+
+  -- where all are placed, none waits
+  pub placed-full : {flags order : List ℕ} {k m : ℕ} → Placed K N flags order k → size N ≡ m → k ≡ m → Waiting (ready K N) flags m
+  placed-full t z e v l off = absurd (true≢false (sym (full K N t (e ∙ sym z) v (omega arith)) ∙ off))

@@ -1,16 +1,16 @@
 // A depth-first walk that proposes an order: down to what a node reads, back with the node placed. Nobody trusts it; it saves passes.
 use super::Steps;
-use super::counted;
-use super::flag_at;
-use super::number_at;
+use super::count_at;
 use super::place;
-use super::put_flag;
-use super::put_number;
-use index::node;
+use areas::flag_at;
+use areas::number_at;
+use areas::put_flag;
+use areas::put_number;
 use index::wide;
 ghost use Prim.Native.Nat.{_+_, _<_, _≤_};
 ghost use lib.ListN.{length};
 ghost use Rattle.netlist.specs.Net.{Sourced};
+ghost use Rattle.columns.specs.Columns.{Columns};
 ghost use Rattle.netlist.specs.ScanLaws.{Found};
 ghost use Rattle.netlist.specs.File.{netIn};
 ghost use Rattle.order.specs.Order.{classOf, Placed};
@@ -30,20 +30,18 @@ fn next_unmet(
     steps: Steps,
     v: usize,
     met: &[u8],
+    codes: &[u8],
+    sources: &[u16],
 ) -> usize
-    requires { ⌜ Found (now file) (now tables) (now nodes) × (v < length (now nodes)) ⌝ }
+    requires { ⌜ Found (now file) (now tables) (now nodes) × (v < length (now nodes))
+        × Columns (netIn (now file) (now tables) (now nodes)) (now codes) (now sources) (length (now nodes)) ⌝ }
     ensures { λ r. ⌜ r ≤ length (now (nodes .entry)) ⌝ }
 {
-    let x = node(file, tables, nodes, v);
-    let e = x.element;
-    let n = counted(e, steps);
-    let sources = x.sources;
+    let n = count_at(file, tables, nodes, steps, v, codes, sources);
+    let from = 3 * v;
     let mut p: usize = 0;
-    while p < 3 {
-        if n <= p {
-            return nodes.len();
-        }
-        let u = wide(sources[p]);
+    while p < n {
+        let u = wide(sources[from + p]);
         if u < nodes.len() {
             if flag_at(met, u) == 0 {
                 return u;
@@ -66,9 +64,12 @@ fn walk_step(
     met: &mut [u8],
     hint: &mut [u16],
     at: Walk,
+    codes: &[u8],
+    sources: &[u16],
 ) -> Walk
     requires { ⌜ Found (now file) (now tables) (now nodes) × Sourced (netIn (now file) (now tables) (now nodes)) × (at .depth ≤ 65535) × (at .noted ≤ 65535)
-        × Placed (classOf steps) (netIn (now file) (now tables) (now nodes)) (now flags) (now order) (at .placed) ⌝ }
+        × Placed (classOf steps) (netIn (now file) (now tables) (now nodes)) (now flags) (now order) (at .placed)
+        × Columns (netIn (now file) (now tables) (now nodes)) (now codes) (now sources) (length (now nodes)) ⌝ }
     ensures { λ r. ⌜ (r .depth ≤ at .depth + 1) × (r .noted ≤ at .noted + 1) × Placed (classOf steps) (netIn (now (file .entry)) (now (tables .entry)) (now (nodes .entry))) (now (flags .exit)) (now (order .exit)) (r .placed) ⌝ }
 {
     let depth = at.depth;
@@ -89,7 +90,7 @@ fn walk_step(
             noted,
         };
     }
-    let u = next_unmet(file, tables, nodes, steps, v, met);
+    let u = next_unmet(file, tables, nodes, steps, v, met, codes, sources);
     if u < nodes.len() {
         put_flag(met, u, 1);
         put_number(stack, depth, u as u16);
@@ -100,7 +101,18 @@ fn walk_step(
         };
     }
     put_number(hint, noted, v as u16);
-    let more = place(file, tables, nodes, steps, v, flags, order, placed);
+    let more = place(
+        file,
+        tables,
+        nodes,
+        steps,
+        v,
+        flags,
+        order,
+        placed,
+        codes,
+        sources,
+    );
     Walk {
         depth: depth - 1,
         placed: more,
@@ -121,9 +133,12 @@ fn walk_from(
     met: &mut [u8],
     hint: &mut [u16],
     start: Walk,
+    codes: &[u8],
+    sources: &[u16],
 ) -> Walk
     requires { ⌜ Found (now file) (now tables) (now nodes) × Sourced (netIn (now file) (now tables) (now nodes)) × (root < length (now nodes)) × (start .noted ≤ 16384)
-        × Placed (classOf steps) (netIn (now file) (now tables) (now nodes)) (now flags) (now order) (start .placed) ⌝ }
+        × Placed (classOf steps) (netIn (now file) (now tables) (now nodes)) (now flags) (now order) (start .placed)
+        × Columns (netIn (now file) (now tables) (now nodes)) (now codes) (now sources) (length (now nodes)) ⌝ }
     ensures { λ r. ⌜ (r .noted ≤ 32768) × Placed (classOf steps) (netIn (now (file .entry)) (now (tables .entry)) (now (nodes .entry))) (now (flags .exit)) (now (order .exit)) (r .placed) ⌝ }
 {
     if 0 < flag_at(met, root) {
@@ -132,7 +147,18 @@ fn walk_from(
     put_flag(met, root, 1);
     let before = start.placed;
     let noted = start.noted;
-    let placed = place(file, tables, nodes, steps, root, flags, order, before);
+    let placed = place(
+        file,
+        tables,
+        nodes,
+        steps,
+        root,
+        flags,
+        order,
+        before,
+        codes,
+        sources,
+    );
     if 0 < flag_at(flags, root) {
         put_number(hint, noted, root as u16);
         return Walk {
@@ -163,6 +189,8 @@ fn walk_from(
             met,
             hint,
             at,
+            codes,
+            sources,
         );
         left = left - 1;
     }
@@ -178,9 +206,12 @@ pub fn walk_all(
     flags: &mut [u8],
     order: &mut [u16],
     hint: &mut [u16],
+    codes: &[u8],
+    sources: &[u16],
 ) -> usize
     requires { ⌜ Found (now file) (now tables) (now nodes) × Sourced (netIn (now file) (now tables) (now nodes))
-        × Placed (classOf steps) (netIn (now file) (now tables) (now nodes)) (now flags) (now order) 0 ⌝ }
+        × Placed (classOf steps) (netIn (now file) (now tables) (now nodes)) (now flags) (now order) 0
+        × Columns (netIn (now file) (now tables) (now nodes)) (now codes) (now sources) (length (now nodes)) ⌝ }
     ensures { λ r. ⌜ Placed (classOf steps) (netIn (now (file .entry)) (now (tables .entry)) (now (nodes .entry))) (now (flags .exit)) (now (order .exit)) r ⌝ }
 {
     let mut stack = [0u16; 1024];
@@ -207,6 +238,8 @@ pub fn walk_all(
             &mut met,
             hint,
             start,
+            codes,
+            sources,
         );
         placed = at.placed;
         noted = at.noted;

@@ -2,16 +2,21 @@
 // A depth-first walk proposes the order and nobody trusts it: a node is placed only where all that it reads is placed.
 mod depth_first;
 
+use areas::flag_at;
+use areas::put_flag;
+use areas::put_number;
+use columns::fill_columns;
 use depth_first::walk_all;
-use index::node;
 use index::wide;
 use netlist::Element;
+use nodes::code_in_clock;
 use nodes::source_count;
 ghost use mathlib.Core.Path.{_≡_};
 ghost use Prim.Native.Nat.{_+_, _<_, _≤_};
-ghost use lib.ListN.{length, getD, set};
+ghost use lib.ListN.{length, getD};
 ghost use Rattle.lists.specs.Lists.{allBelow};
-ghost use Rattle.netlist.specs.Net.{size, Sourced};
+ghost use Rattle.netlist.specs.Net.{size, elementAt, Sourced};
+ghost use Rattle.columns.specs.Columns.{Columns};
 ghost use Rattle.netlist.specs.ScanLaws.{Found};
 ghost use Rattle.netlist.specs.File.{netIn};
 ghost use Rattle.order.specs.Pass.{on, Waiting};
@@ -59,32 +64,23 @@ pub fn counted(e: Element, steps: Steps) -> usize
     }
 }
 
-// Total reads and writes of work areas: past the end there is 0, and nothing is written.
-pub fn flag_at(flags: &[u8], i: usize) -> u8
-    ensures { λ r. ⌜ r ≡ getD (now (flags .entry)) i 0 ⌝ }
+// How many sources of node v, from the first on, count.
+fn count_at(
+    file: &[u8],
+    tables: &[u16],
+    nodes: &[u16],
+    steps: Steps,
+    v: usize,
+    codes: &[u8],
+    sources: &[u16],
+) -> usize
+    requires { ⌜ Columns (netIn (now file) (now tables) (now nodes)) (now codes) (now sources) (length (now nodes)) × (v < length (now nodes)) × (v < 1024) ⌝ }
+    ensures { λ r. ⌜ (r ≡ classOf steps .of (elementAt (netIn (now (file .entry)) (now (tables .entry)) (now (nodes .entry))) v)) × (r ≤ 3) ⌝ }
 {
-    if i < flags.len() { flags[i] } else { 0 }
-}
-
-pub fn number_at(numbers: &[u16], i: usize) -> u16
-    ensures { λ r. ⌜ r ≡ getD (now (numbers .entry)) i 0 ⌝ }
-{
-    if i < numbers.len() { numbers[i] } else { 0 }
-}
-
-pub fn put_flag(flags: &mut [u8], i: usize, x: u8)
-    ensures { λ _. ⌜ now (flags .exit) ≡ set (now (flags .entry)) i x ⌝ }
-{
-    if i < flags.len() {
-        flags[i] = x;
-    }
-}
-
-pub fn put_number(numbers: &mut [u16], i: usize, x: u16)
-    ensures { λ _. ⌜ now (numbers .exit) ≡ set (now (numbers .entry)) i x ⌝ }
-{
-    if i < numbers.len() {
-        numbers[i] = x;
+    let code = codes[v] as usize;
+    match steps {
+        Steps::InClock => code_in_clock(code),
+        Steps::InRegisters => { if code == 2 { 1 } else { 0 } }
     }
 }
 
@@ -96,24 +92,24 @@ fn is_ready(
     steps: Steps,
     v: usize,
     flags: &[u8],
+    codes: &[u8],
+    sources: &[u16],
 ) -> bool
-    requires { ⌜ Found (now file) (now tables) (now nodes) × (v < length (now nodes)) ⌝ }
+    requires { ⌜ Columns (netIn (now file) (now tables) (now nodes)) (now codes) (now sources) (length (now nodes)) × (v < length (now nodes)) × (v < 1024) ⌝ }
     ensures { λ r. ⌜ r ≡ ready (classOf steps) (netIn (now (file .entry)) (now (tables .entry)) (now (nodes .entry))) (now (flags .entry)) v ⌝ }
 {
-    let x = node(file, tables, nodes, v);
-    let e = x.element;
-    let sources = x.sources;
-    all_flagged(sources, counted(e, steps), flags)
+    let n = count_at(file, tables, nodes, steps, v, codes, sources);
+    all_flagged(sources, 3 * v, n, flags)
 }
 
-// Whether the first n sources are flagged.
-fn all_flagged(sources: [u16; 3], n: usize, flags: &[u8]) -> bool
-    requires { ⌜ n ≤ 3 ⌝ }
-    ensures { λ r. ⌜ r ≡ allBelow n (λ p. on (now (flags .entry)) (getD sources p 0)) ⌝ }
+// Whether the n sources from a place on are flagged.
+fn all_flagged(sources: &[u16], from: usize, n: usize, flags: &[u8]) -> bool
+    requires { ⌜ from + n ≤ length (now sources) ⌝ }
+    ensures { λ r. ⌜ r ≡ allBelow n (λ p. on (now (flags .entry)) (getD (now (sources .entry)) (from + p) 0)) ⌝ }
 {
     let mut p: usize = 0;
     while p < n {
-        if flag_at(flags, wide(sources[p])) == 0 {
+        if flag_at(flags, wide(sources[from + p])) == 0 {
             return false;
         }
         p = p + 1;
@@ -131,15 +127,18 @@ fn place(
     flags: &mut [u8],
     order: &mut [u16],
     k: usize,
+    codes: &[u8],
+    sources: &[u16],
 ) -> usize
     requires { ⌜ Found (now file) (now tables) (now nodes) × Sourced (netIn (now file) (now tables) (now nodes)) × (v < length (now nodes))
-        × Placed (classOf steps) (netIn (now file) (now tables) (now nodes)) (now flags) (now order) k ⌝ }
+        × Placed (classOf steps) (netIn (now file) (now tables) (now nodes)) (now flags) (now order) k
+        × Columns (netIn (now file) (now tables) (now nodes)) (now codes) (now sources) (length (now nodes)) ⌝ }
     ensures { λ r. ⌜ PlacedOnce (classOf steps) (netIn (now (file .entry)) (now (tables .entry)) (now (nodes .entry))) (now (flags .entry)) (now (flags .exit)) (now (order .exit)) k r v ⌝ }
 {
     if 0 < flag_at(flags, v) {
         return k;
     }
-    if is_ready(file, tables, nodes, steps, v, flags) {
+    if is_ready(file, tables, nodes, steps, v, flags, codes, sources) {
         put_flag(flags, v, 1);
         put_number(order, k, v as u16);
         k + 1
@@ -157,15 +156,29 @@ fn sweep(
     flags: &mut [u8],
     order: &mut [u16],
     start: usize,
+    codes: &[u8],
+    sources: &[u16],
 ) -> usize
     requires { ⌜ Found (now file) (now tables) (now nodes) × Sourced (netIn (now file) (now tables) (now nodes))
-        × Placed (classOf steps) (netIn (now file) (now tables) (now nodes)) (now flags) (now order) start ⌝ }
+        × Placed (classOf steps) (netIn (now file) (now tables) (now nodes)) (now flags) (now order) start
+        × Columns (netIn (now file) (now tables) (now nodes)) (now codes) (now sources) (length (now nodes)) ⌝ }
     ensures { λ r. ⌜ PlacedPass (classOf steps) (netIn (now (file .entry)) (now (tables .entry)) (now (nodes .entry))) (now (flags .entry)) (now (flags .exit)) (now (order .exit)) start r (length (now (nodes .entry))) ⌝ }
 {
     let mut k = start;
     let mut v: usize = 0;
     while v < nodes.len() {
-        k = place(file, tables, nodes, steps, v, flags, order, k);
+        k = place(
+            file,
+            tables,
+            nodes,
+            steps,
+            v,
+            flags,
+            order,
+            k,
+            codes,
+            sources,
+        );
         v = v + 1;
     }
     k
@@ -180,15 +193,18 @@ fn settle(
     flags: &mut [u8],
     order: &mut [u16],
     start: usize,
+    codes: &[u8],
+    sources: &[u16],
 ) -> usize
     requires { ⌜ Found (now file) (now tables) (now nodes) × Sourced (netIn (now file) (now tables) (now nodes))
-        × Placed (classOf steps) (netIn (now file) (now tables) (now nodes)) (now flags) (now order) start ⌝ }
+        × Placed (classOf steps) (netIn (now file) (now tables) (now nodes)) (now flags) (now order) start
+        × Columns (netIn (now file) (now tables) (now nodes)) (now codes) (now sources) (length (now nodes)) ⌝ }
     ensures { λ r. ⌜ Placed (classOf steps) (netIn (now (file .entry)) (now (tables .entry)) (now (nodes .entry))) (now (flags .exit)) (now (order .exit)) r
         × Waiting (ready (classOf steps) (netIn (now (file .entry)) (now (tables .entry)) (now (nodes .entry)))) (now (flags .exit)) (length (now (nodes .entry))) ⌝ }
 {
     let mut k = start;
     loop {
-        let more = sweep(file, tables, nodes, steps, flags, order, k);
+        let more = sweep(file, tables, nodes, steps, flags, order, k, codes, sources);
         if more == k {
             return k;
         }
@@ -206,17 +222,43 @@ pub fn order_with_hint(
     flags: &mut [u8],
     order: &mut [u16],
     hint: &mut [u16],
+    codes: &[u8],
+    sources: &[u16],
 ) -> usize
     requires { ⌜ Found (now file) (now tables) (now nodes) × Sourced (netIn (now file) (now tables) (now nodes))
-        × Placed (classOf steps) (netIn (now file) (now tables) (now nodes)) (now flags) (now order) 0 ⌝ }
+        × Placed (classOf steps) (netIn (now file) (now tables) (now nodes)) (now flags) (now order) 0
+        × Columns (netIn (now file) (now tables) (now nodes)) (now codes) (now sources) (length (now nodes)) ⌝ }
     ensures { λ r. ⌜ Placed (classOf steps) (netIn (now (file .entry)) (now (tables .entry)) (now (nodes .entry))) (now (flags .exit)) (now (order .exit)) r
         × Waiting (ready (classOf steps) (netIn (now (file .entry)) (now (tables .entry)) (now (nodes .entry)))) (now (flags .exit)) (length (now (nodes .entry))) ⌝ }
 {
-    let placed = walk_all(file, tables, nodes, steps, flags, order, hint);
-    settle(file, tables, nodes, steps, flags, order, placed)
+    let placed = walk_all(
+        file,
+        tables,
+        nodes,
+        steps,
+        flags,
+        order,
+        hint,
+        codes,
+        sources,
+    );
+    if placed == nodes.len() {
+        return placed;
+    }
+    settle(
+        file,
+        tables,
+        nodes,
+        steps,
+        flags,
+        order,
+        placed,
+        codes,
+        sources,
+    )
 }
 
-// The same for whoever needs no hint.
+// The same for whoever needs no hint and has no columns.
 pub fn order_nodes(
     file: &[u8],
     tables: &[u16],
@@ -230,6 +272,20 @@ pub fn order_nodes(
     ensures { λ r. ⌜ Placed (classOf steps) (netIn (now (file .entry)) (now (tables .entry)) (now (nodes .entry))) (now (flags .exit)) (now (order .exit)) r
         × Waiting (ready (classOf steps) (netIn (now (file .entry)) (now (tables .entry)) (now (nodes .entry)))) (now (flags .exit)) (length (now (nodes .entry))) ⌝ }
 {
+    let mut codes = [0u8; 1024];
+    let mut widths = [0u8; 1024];
+    let mut sources = [0u16; 3072];
+    fill_columns(file, tables, nodes, &mut codes, &mut widths, &mut sources);
     let mut hint = [0u16; 1024];
-    order_with_hint(file, tables, nodes, steps, flags, order, &mut hint)
+    order_with_hint(
+        file,
+        tables,
+        nodes,
+        steps,
+        flags,
+        order,
+        &mut hint,
+        &codes,
+        &sources,
+    )
 }

@@ -1,9 +1,9 @@
 // The nodes of the rewritten netlist that are no registers, in the file's order: an old node that is no register once, a ROM once for each different reset word.
 use super::wiring::memory_bit;
+use areas::number_at;
+use areas::put_number;
 use index::node;
 use netlist::Element;
-use order::number_at;
-use order::put_number;
 ghost use mathlib.Core.Path.{_≡_};
 ghost use Prim.Native.Nat.{_+_, _<_, _≤_};
 ghost use lib.ListN.{length};

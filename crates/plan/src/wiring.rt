@@ -1,10 +1,10 @@
 // The wires of the netlist in a row, three to a node, each with its root, its source, and the clock of the reset word that a ROM at its root takes from it.
+use areas::number_at;
+use areas::put_number;
 use index::node;
 use index::wide;
 use netlist::Element;
 use nodes::source_count;
-use order::number_at;
-use order::put_number;
 ghost use mathlib.Core.Path.{_≡_};
 ghost use mathlib.Core.Bool.{cond};
 ghost use Prim.Native.Nat.{_+_, _-_, _*_, _<_, _≤_, max};

@@ -1,5 +1,5 @@
 -- A field's content by its bytes in the file. Assumes nothing.
-use mathlib.Core.Path.{_≡_, refl, sym, ap, ap₂, _∙_}
+use mathlib.Core.Path.{_≡_, refl, sym, ap, ap₂, subst, _∙_}
 use mathlib.Core.Bool.{Bool, true, false}
 use mathlib.Core.List.{List, [], _∷_}
 use Prim.Native.Nat.{ℕ, _+_, _*_, _≤_, _<_}
@@ -7,7 +7,7 @@ use native.Mathlib.Omega.{arith}
 use lib.ListN.{length, getD, take, drop}
 use lib.Seq.{getD-take, getD-drop}
 use lib.Dec.{ltb, eqb}
-use borrow.Author.Tests.{ltb-true, eq-eqb, ne-eqb}
+use borrow.Author.Tests.{ltb-true, eq-eqb, ne-eqb, eqb-true, eqb-false}
 use Rattle.lists.specs.Paths.{pick, arms, arms-eq, on-eq, off-eq}
 use Rattle.words.specs.Words.{word}
 use Rattle.words.specs.declared.Op.{Op}
@@ -23,7 +23,9 @@ use Rattle.netlist.specs.File.{tableIn, nodeIn}
 use Rattle.netlist.specs.declared.Element.{Element}
 use Rattle.netlist.specs.declared.Element.the-variants.{Input, Output, Register, Async, Clocked, Gate}
 use Rattle.netlist.specs.declared.ElementRead.{ElementRead}
+use Rattle.netlist.specs.declared.Node.{Node}
 use Rattle.nodes.specs.Room.{room}
+use Rattle.nodes.specs.Code.{codeOf, gate-code, kind-code}
 use Rattle.nodes.specs.Unchecked.{opUnchecked, elementUnchecked, is-input, is-output, is-register, is-async, is-clocked, is-gate, unchecked, Lengths, lengths}
 
 module _ (s : List ℕ) (at : ℕ) where
@@ -139,6 +141,13 @@ module _ (s : List ℕ) (at : ℕ) where
     pub kind-few : getD s (at + 3) 0 ≤ 5
     kind-few = omega (arith, kind-in, shape .few)
 
+    -- the sources alone
+    pub sources-here : (f n : ℕ) → f ≡ firstSource (nodeIn s at .element) → n ≡ operands (nodeIn s at .element) → sourcesFrom s (at + 3 + f) n ≡ nodeIn s at .sources
+    sources-here f n p q = ap₂ (λ (k m : ℕ). sourcesFrom s (at + 3 + k) m) p q ∙ ap (λ (x : Node). x .sources) (node-in _ _ _ refl refl refl)
+
+    pub sources-fit : (f n : ℕ) → f ≡ firstSource (nodeIn s at .element) → n ≡ operands (nodeIn s at .element) → f + 2 * n ≤ lengthAt s at
+    sources-fit f n p q = omega (arith, sources-room, ap₂ (λ (k m : ℕ). k + 2 * m) (p ∙ ap firstSource (sym element-in)) (q ∙ ap operands (sym element-in)))
+
     -- ---- a gate's operation
 
     module _ (e : getD s (at + 3) 0 ≡ 5) where
@@ -172,6 +181,31 @@ module _ (s : List ℕ) (at : ℕ) where
       pub plain-at : (getD s (at + 5) 0 ≡ 0 → ⊥) → (getD s (at + 5) 0 ≡ 10 → ⊥) → (o : Op) → o ≡ plainOp (getD s (at + 5) 0) → o ≡ opUnchecked (content s at)
       plain-at a b o r =
           off-eq _ _ (getD (content s at) 2 0) 0 (λ d. a (sym operation-in ∙ d)) (off-eq _ _ (getD (content s at) 2 0) 10 (λ d. b (sym operation-in ∙ d)) (r ∙ ap plainOp (sym operation-in)))
+
+    -- ---- the code
+
+    -- where the code's last part stands, from the content's start: a gate's operation, or the kind
+    pub code-place : (i : ℕ) → i ≡ pick (eqb (getD s (at + 3) 0) 5) 2 0 → at + 3 + i < length s
+    code-place i q =
+        let l = long in
+        let h = p .inside in
+        subst (λ (k : ℕ). at + 3 + k < length s) (sym q) (arms-eq (λ (k : ℕ). at + 3 + k < length s) _ _ (getD s (at + 3) 0) 5 (λ e. omega (arith, gate-long e)) (λ _. omega arith))
+
+    pub code-in : (b i : ℕ) → b ≡ pick (eqb (getD s (at + 3) 0) 5) 5 0 → i ≡ pick (eqb (getD s (at + 3) 0) 5) 2 0 → b + getD s (at + 3 + i) 0 ≡ codeOf (nodeIn s at .element)
+    unfolding pick
+    code-in b i q r = ap₂ (λ (x y : ℕ). x + getD s (at + 3 + y) 0) q r ∙ by (eqb (getD s (at + 3) 0) 5) refl
+      where
+        by : (t : Bool) → eqb (getD s (at + 3) 0) 5 ≡ t → pick t 5 0 + getD s (at + 3 + pick t 2 0) 0 ≡ codeOf (nodeIn s at .element)
+        by true e =
+            let g = eqb-true (getD s (at + 3) 0) 5 e in
+            let j : at + 3 + 2 ≡ at + 5 = omega arith in
+            ap (λ (k : ℕ). 5 + getD s k 0) j ∙ ap (5 +_) (sym (operation-in g)) ∙ gate-code (content s at) (kind-in ∙ g) (shape .operation (kind-in ∙ g)) ∙ ap codeOf element-in
+        by false e =
+            let n = eqb-false (getD s (at + 3) 0) 5 e in
+            let j : 0 + getD s (at + 3 + 0) 0 ≡ getD s (at + 3 + 0) 0 = omega arith in
+            let m : at + 3 + 0 ≡ at + 3 = omega arith in
+            let k = shape .few in
+            j ∙ ap (λ (k : ℕ). getD s k 0) m ∙ sym kind-in ∙ kind-code (content s at) (omega (arith, kind-in)) ∙ ap codeOf element-in
 
     -- ---- an output port is told by its kind
 

@@ -1,4 +1,6 @@
 // Reads the fields of a file, checks 1 to 5, and keeps an index of them: the offsets of the table fields and of the node fields.
+pub mod parts;
+
 use netlist::Element;
 use netlist::Memory;
 use netlist::Node;

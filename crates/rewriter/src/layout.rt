@@ -1,11 +1,11 @@
 // The rewritten file: the head, the tables as they came, the planned nodes, the end.
+use areas::number_at;
 use index::node;
 use index::wide;
 use index::width;
 use netlist::Element;
 use netlist::Node;
 use nodes::source_count;
-use order::number_at;
 use words::word_at;
 use writer::content_length;
 use writer::put_node;

@@ -1,3 +1,3 @@
-pub mod Sources
-pub mod Widths
-pub mod Readers
+pub mod SourceLaws
+pub mod WidthLaws
+pub mod ReaderLaws

@@ -15,6 +15,6 @@ pub record Marks (N : Net) (marks : List ℕ) (x : ℕ) : Type 0 where
   pub each : (u : ℕ) → u < size N → getD marks u 0 ≡ one (anyBelow x (λ y. readsTest N y u))
 
 -- the marks after those of the first n of some sources
-pub record Marked (sources : List ℕ) (n : ℕ) (before after : List ℕ) : Type 0 where
+pub record Marked (sources : ℕ → ℕ) (n : ℕ) (before after : List ℕ) : Type 0 where
   pub kept : length after ≡ length before
-  pub each : (u : ℕ) → u < length before → getD after u 0 ≡ cond (anyBelow n (λ p. eqb (getD sources p 0) u)) 1 (getD before u 0)
+  pub each : (u : ℕ) → u < length before → getD after u 0 ≡ cond (anyBelow n (λ p. eqb (sources p) u)) 1 (getD before u 0)

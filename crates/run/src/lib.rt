@@ -1,4 +1,5 @@
 // The reset service and the run of one clock, on the bytes that a host lends. Nothing is written before every check is passed.
+use areas::number_at;
 use checks::open_file;
 use evaluate::Row;
 use evaluate::byte_at;
@@ -13,7 +14,6 @@ use index::wide;
 use netlist::Answer;
 use netlist::Element;
 use netlist::Scanned;
-use order::number_at;
 ghost use mathlib.Core.Path.{_≡_};
 ghost use mathlib.Core.Bool.{true};
 ghost use Prim.Native.Nat.{_+_, _/_, _%_, _<_};

@@ -1,11 +1,11 @@
 // The wires of an indexed netlist: for every node the root where its wire begins, and the registers passed on the way back to it.
+use areas::number_at;
+use areas::put_number;
 use index::node;
 use index::wide;
 use netlist::Element;
 use order::Steps;
-use order::number_at;
 use order::order_nodes;
-use order::put_number;
 ghost use mathlib.Core.Path.{_≡_};
 ghost use Prim.Native.Nat.{_<_, _≤_};
 ghost use lib.ListN.{length, set};

@@ -15,17 +15,17 @@ use Rattle.checks.proofs.cycles_verdict.Statement.{statement}
 use Rattle.checks.proofs.cycles_verdict.Tie as tie
 
 lowest-cycle-requires : tie.Need-lowest-cycle-requires
-lowest-cycle-requires c κs = c .before .before .before .before .before .pre
+lowest-cycle-requires c κs = c .before .before .before .before .before .before .before .pre
 
-cast-t13 : tie.Need-cast-t13
-cast-t13 c = omega (arith, c .if1 .taken, c .before .before .before .before .before .before .before .before .before .pre .0 .few-nodes)
+cast-t15 : tie.Need-cast-t15
+cast-t15 c = omega (arith, c .if1 .taken, c .before .before .before .before .before .before .before .before .before .before .before .pre .0 .few-nodes)
 
 same-length : tie.Need-same-length
 same-length c = c .before .before .before .lowest-cycle .kept .1 .1 .1 .1 .0
 
 returns : tie.Need-returns
 returns c =
-    let a = c .before .before .before .before .before .before .before .before .before .args in
+    let a = c .before .before .before .before .before .before .before .before .before .before .before .args in
     let N = netIn (a .file .now) (a .tables .now) (a .nodes .now) in
     let z = size-in (a .file .now) (a .tables .now) (a .nodes .now) in
     (nine-refuses N z (c .before .before .before .lowest-cycle .ensures .0) (c .if1 .taken), λ q. absurd (let x : _≡_ {A = ℕ} 0 1 = cc in omega arith))
@@ -34,17 +34,17 @@ slice-aggregate-lowest-cycle : tie.Need-slice-aggregate-lowest-cycle
 slice-aggregate-lowest-cycle c = search needs
 
 lowest-cycle-requires-2 : tie.Need-lowest-cycle-requires-2
-lowest-cycle-requires-2 c κs = (c .before .before .before .before .before .before .before .before .before .before .pre .0, c .before .before .before .before .before .before .before .before .before .before .pre .1, search needs)
+lowest-cycle-requires-2 c κs = (c .before .before .before .before .before .before .before .before .before .before .before .before .pre .0, c .before .before .before .before .before .before .before .before .before .before .before .before .pre .1, search needs, c .before .before .before .before .before .before .before .before .before .before .before .before .pre .3)
 
-cast-t16 : tie.Need-cast-t16
-cast-t16 c = omega (arith, c .if2 .taken, c .before .before .before .before .before .before .before .before .before .before .before .before .before .pre .0 .few-nodes)
+cast-t18 : tie.Need-cast-t18
+cast-t18 c = omega (arith, c .if2 .taken, c .before .before .before .before .before .before .before .before .before .before .before .before .before .before .before .pre .0 .few-nodes)
 
 same-length-2 : tie.Need-same-length-2
 same-length-2 c = c .before .before .before .before .before .before .before .lowest-cycle .kept .1 .1 .1 .1 .0
 
 returns-2 : tie.Need-returns-2
 returns-2 c =
-    let a = c .before .before .before .before .before .before .before .before .before .before .before .before .before .args in
+    let a = c .before .before .before .before .before .before .before .before .before .before .before .before .before .before .before .args in
     let N = netIn (a .file .now) (a .tables .now) (a .nodes .now) in
     let z = size-in (a .file .now) (a .tables .now) (a .nodes .now) in
     (ten-refuses N z (c .before .before .before .before .before .before .before .lowest-cycle .ensures .0) (c .before .before .lowest-cycle2 .ensures .0) (c .before .before .before .before .if1 .left) (c .if2 .taken), λ q. absurd (let x : _≡_ {A = ℕ} 0 1 = cc in omega arith))
@@ -54,7 +54,7 @@ same-length-3 c = c .before .before .before .before .before .before .before .low
 
 returns-3 : tie.Need-returns-3
 returns-3 c =
-    let a = c .before .before .before .before .before .before .before .before .before .before .before .before .before .args in
+    let a = c .before .before .before .before .before .before .before .before .before .before .before .before .before .before .before .args in
     let N = netIn (a .file .now) (a .tables .now) (a .nodes .now) in
     let z = size-in (a .file .now) (a .tables .now) (a .nodes .now) in
     let l = lowest-bound (length (a .nodes .now)) (reachesItself inClock N) in
@@ -65,12 +65,12 @@ cycles-verdict-spec =
     tie.close
     (tie.spec
     lowest-cycle-requires
-    cast-t13
+    cast-t15
     same-length
     returns
     slice-aggregate-lowest-cycle
     lowest-cycle-requires-2
-    cast-t16
+    cast-t18
     same-length-2
     returns-2
     same-length-3

@@ -19,32 +19,32 @@ same-length c = search needs
 
 returns : tie.Need-returns
 returns c =
-    let a = c .before .before .before .before .before .before .before .before .args in
+    let a = c .before .before .before .before .before .before .before .before .before .before .args in
     let N = netIn (a .file .now) (a .tables .now) (a .nodes .now) in
     let K = classOf (a .steps) in
-    let t = c .before .before .before .before .before .before .before .before .pre .3 in
+    let t = c .before .before .before .before .before .before .before .before .before .before .pre .3 in
     once-on t (omega (arith, c .before .flag-at .ensures))
 
 is-ready-requires : tie.Need-is-ready-requires
-is-ready-requires c κs = search needs
+is-ready-requires c κs = (c .before .before .before .before .before .before .before .before .before .before .before .pre .4, c .before .before .before .before .before .before .before .before .before .before .before .pre .2, omega (arith, c .before .before .before .before .before .before .before .before .before .before .before .pre .2, c .before .before .before .before .before .before .before .before .before .before .before .pre .0 .few-nodes))
 
 put-flag-requires : tie.Need-put-flag-requires
 put-flag-requires c κs = search needs
 
 cast-put-number : tie.Need-cast-put-number
 cast-put-number c =
-    let a = c .before .before .before .before .before .before .before .before .before .before .before .before .before .before .before .before .args in
+    let a = c .before .before .before .before .before .before .before .before .before .before .before .before .before .before .before .before .before .before .args in
     let N = netIn (a .file .now) (a .tables .now) (a .nodes .now) in
-    omega (arith, c .before .before .before .before .before .before .before .before .before .before .before .before .before .before .before .before .pre .2, c .before .before .before .before .before .before .before .before .before .before .before .before .before .before .before .before .pre .0 .few-nodes)
+    omega (arith, c .before .before .before .before .before .before .before .before .before .before .before .before .before .before .before .before .before .before .pre .2, c .before .before .before .before .before .before .before .before .before .before .before .before .before .before .before .before .before .before .pre .0 .few-nodes)
 
 put-number-requires : tie.Need-put-number-requires
 put-number-requires c κs = search needs
 
 add-result : tie.Need-add-result
 add-result c =
-    let a = c .before .before .before .before .before .before .before .before .before .before .before .before .before .before .before .before .before .before .before .args in
+    let a = c .before .before .before .before .before .before .before .before .before .before .before .before .before .before .before .before .before .before .before .before .before .args in
     let N = netIn (a .file .now) (a .tables .now) (a .nodes .now) in
-    omega (arith, few (classOf (a .steps)) N (c .before .before .before .before .before .before .before .before .before .before .before .before .before .before .before .before .before .before .before .pre .3), size-in (a .file .now) (a .tables .now) (a .nodes .now), c .before .before .before .before .before .before .before .before .before .before .before .before .before .before .before .before .before .before .before .pre .0 .few-nodes)
+    omega (arith, few (classOf (a .steps)) N (c .before .before .before .before .before .before .before .before .before .before .before .before .before .before .before .before .before .before .before .before .before .pre .3), size-in (a .file .now) (a .tables .now) (a .nodes .now), c .before .before .before .before .before .before .before .before .before .before .before .before .before .before .before .before .before .before .before .before .before .pre .0 .few-nodes)
 
 same-length-2 : tie.Need-same-length-2
 same-length-2 c = search needs
@@ -54,11 +54,11 @@ same-length-3 c = search needs
 
 returns-2 : tie.Need-returns-2
 returns-2 c =
-    let a = c .before .before .before .before .before .before .before .before .before .before .before .before .before .before .before .before .before .before .before .args in
+    let a = c .before .before .before .before .before .before .before .before .before .before .before .before .before .before .before .before .before .before .before .before .before .args in
     let N = netIn (a .file .now) (a .tables .now) (a .nodes .now) in
     let K = classOf (a .steps) in
-    let t = c .before .before .before .before .before .before .before .before .before .before .before .before .before .before .before .before .before .before .before .pre .3 in
-    placed-once K N t (c .before .before .before .before .before .before .before .before .before .before .before .before .before .before .before .before .before .before .before .pre .1) (omega (arith, c .before .before .before .before .before .before .before .before .before .before .before .before .before .before .before .before .before .before .before .pre .2, size-in (a .file .now) (a .tables .now) (a .nodes .now))) (omega (arith, c .before .before .before .before .before .before .before .before .before .before .before .before .flag-at .ensures)) (sym (c .before .before .before .before .before .before .before .before .before .is-ready .ensures) ∙ c .before .before .before .before .before .before .before .before .if2 .taken)
+    let t = c .before .before .before .before .before .before .before .before .before .before .before .before .before .before .before .before .before .before .before .before .before .pre .3 in
+    placed-once K N t (c .before .before .before .before .before .before .before .before .before .before .before .before .before .before .before .before .before .before .before .before .before .pre .1) (omega (arith, c .before .before .before .before .before .before .before .before .before .before .before .before .before .before .before .before .before .before .before .before .before .pre .2, size-in (a .file .now) (a .tables .now) (a .nodes .now))) (omega (arith, c .before .before .before .before .before .before .before .before .before .before .before .before .flag-at .ensures)) (sym (c .before .before .before .before .before .before .before .before .before .is-ready .ensures) ∙ c .before .before .before .before .before .before .before .before .if2 .taken)
     (c .before .before .before .before .before .before .put-flag .ensures) (c .before .before .put-number .ensures)
 
 same-length-4 : tie.Need-same-length-4
@@ -66,10 +66,10 @@ same-length-4 c = search needs
 
 returns-3 : tie.Need-returns-3
 returns-3 c =
-    let a = c .before .before .before .before .before .before .before .before .before .before .before .args in
+    let a = c .before .before .before .before .before .before .before .before .before .before .before .before .before .args in
     let N = netIn (a .file .now) (a .tables .now) (a .nodes .now) in
     let K = classOf (a .steps) in
-    let t = c .before .before .before .before .before .before .before .before .before .before .before .pre .3 in
+    let t = c .before .before .before .before .before .before .before .before .before .before .before .before .before .pre .3 in
     once-waiting t (sym (c .before .is-ready .ensures) ∙ c .if2 .left)
 
 pub place-spec : {M : Type 1} → statement M

@@ -12,16 +12,16 @@ use Rattle.order.proofs.settle.Statement.{statement}
 use Rattle.order.proofs.settle.Tie as tie
 
 abbrev Inv-loop : tie.InvT-loop
-Inv-loop file tables nodes steps flags₀ order₀ start k₀ flags order k = (length flags ≡ length flags₀) × (length order ≡ length order₀) × Placed (classOf steps) (netIn file tables nodes) flags order k
+Inv-loop file tables nodes steps flags₀ order₀ start codes sources k₀ flags order k = (length flags ≡ length flags₀) × (length order ≡ length order₀) × Placed (classOf steps) (netIn file tables nodes) flags order k
 
 abbrev μ-loop : tie.MeasureT-loop
-μ-loop file tables nodes steps flags₀ order₀ start k₀ flags order k = length nodes - k
+μ-loop file tables nodes steps flags₀ order₀ start codes sources k₀ flags order k = length nodes - k
 
 loop-holds : tie.Need-loop-holds Inv-loop μ-loop
-loop-holds c = (refl, refl, c .before .before .before .before .before .pre .2)
+loop-holds c = (refl, refl, c .before .before .before .before .before .before .before .pre .2)
 
 sweep-requires : tie.Need-sweep-requires Inv-loop μ-loop
-sweep-requires c κs = (c .before .before .before .before .before .before .before .before .pre .0, c .before .before .before .before .before .before .before .before .pre .1, c .before .before .loop .inv .2)
+sweep-requires c κs = (c .before .before .before .before .before .before .before .before .before .before .pre .0, c .before .before .before .before .before .before .before .before .before .before .pre .1, c .before .before .loop .inv .2, c .before .before .before .before .before .before .before .before .before .before .pre .3)
 
 same-length : tie.Need-same-length Inv-loop μ-loop
 same-length c = c .before .before .before .before .before .sweep .kept .1 .1 .1 .1 .0 ∙ c .before .before .before .before .before .before .before .before .loop .inv .0
@@ -34,7 +34,7 @@ returns c = placed-rest _ _ (c .before .before .before .before .before .sweep .e
 
 loop-less : tie.Need-loop-less Inv-loop μ-loop
 loop-less c =
-    let a = c .before .before .before .before .before .before .before .before .before .before .before .before .before .before .args in
+    let a = c .before .before .before .before .before .before .before .before .before .before .before .before .before .before .before .before .args in
     let N = netIn (a .file .now) (a .tables .now) (a .nodes .now) in
     let s = c .before .before .before .before .before .sweep .ensures in
     omega (arith, s .grows, c .if1 .left, few (classOf (a .steps)) N (s .holds), size-in (a .file .now) (a .tables .now) (a .nodes .now))

@@ -10,16 +10,16 @@ use Rattle.order.proofs.sweep.Statement.{statement}
 use Rattle.order.proofs.sweep.Tie as tie
 
 abbrev Inv-loop : tie.InvT-loop
-Inv-loop file tables nodes steps flags₀ order₀ start k₀ v₀ flags order k v = (v ≤ length nodes) × (length flags ≡ length flags₀) × (length order ≡ length order₀) × PlacedPass (classOf steps) (netIn file tables nodes) flags₀ flags order start k v
+Inv-loop file tables nodes steps flags₀ order₀ start codes sources k₀ v₀ flags order k v = (v ≤ length nodes) × (length flags ≡ length flags₀) × (length order ≡ length order₀) × PlacedPass (classOf steps) (netIn file tables nodes) flags₀ flags order start k v
 
 abbrev μ-loop : tie.MeasureT-loop
-μ-loop file tables nodes steps flags₀ order₀ start k₀ v₀ flags order k v = length nodes - v
+μ-loop file tables nodes steps flags₀ order₀ start codes sources k₀ v₀ flags order k v = length nodes - v
 
 loop-holds : tie.Need-loop-holds Inv-loop μ-loop
-loop-holds c = (omega arith, refl, refl, swept-none (c .before .before .before .before .before .pre .2))
+loop-holds c = (omega arith, refl, refl, swept-none (c .before .before .before .before .before .before .before .pre .2))
 
 place-requires : tie.Need-place-requires Inv-loop μ-loop
-place-requires c κs = (c .before .before .before .before .before .before .before .before .before .pre .0, c .before .before .before .before .before .before .before .before .before .pre .1, c .before .before .loop-test .taken, c .before .before .before .loop .inv .3 .holds)
+place-requires c κs = (c .before .before .before .before .before .before .before .before .before .before .before .pre .0, c .before .before .before .before .before .before .before .before .before .before .before .pre .1, c .before .before .loop-test .taken, c .before .before .before .loop .inv .3 .holds, c .before .before .before .before .before .before .before .before .before .before .before .pre .3)
 
 add-v : tie.Need-add-v Inv-loop μ-loop
 add-v c = omega arith
@@ -38,7 +38,7 @@ same-length-2 c = c .before .loop .inv .2
 
 returns : tie.Need-returns Inv-loop μ-loop
 returns c =
-    let a = c .before .before .before .before .before .before .before .args in
+    let a = c .before .before .before .before .before .before .before .before .before .args in
     let N = netIn (a .file .now) (a .tables .now) (a .nodes .now) in
     let e : c .before .loop .v ≡ length (a .nodes .now) = omega arith in
     subst (λ (i : ℕ). PlacedPass (classOf (a .steps)) N (a .flags .now) (c .before .loop .flags) (c .before .loop .order) (a .start) (c .before .loop .k) i) e (c .before .loop .inv .3)

@@ -9,13 +9,13 @@ use Rattle.order.proofs.depth_first.walk_all.Statement.{statement}
 use Rattle.order.proofs.depth_first.walk_all.Tie as tie
 
 abbrev Inv-loop : tie.InvT-loop
-Inv-loop file tables nodes steps flags₀ order₀ hint₀ stack₀ met₀ placed₀ noted₀ root₀ flags order hint stack met placed noted root = (length flags ≡ length flags₀) × (length order ≡ length order₀) × (length hint ≡ length hint₀) × (length stack ≡ 1024) × (length met ≡ 1024) × Placed (classOf steps) (netIn file tables nodes) flags order placed
+Inv-loop file tables nodes steps flags₀ order₀ hint₀ codes sources stack₀ met₀ placed₀ noted₀ root₀ flags order hint stack met placed noted root = (length flags ≡ length flags₀) × (length order ≡ length order₀) × (length hint ≡ length hint₀) × (length stack ≡ 1024) × (length met ≡ 1024) × Placed (classOf steps) (netIn file tables nodes) flags order placed
 
 abbrev μ-loop : tie.MeasureT-loop
-μ-loop file tables nodes steps flags₀ order₀ hint₀ stack₀ met₀ placed₀ noted₀ root₀ flags order hint stack met placed noted root = length nodes - root
+μ-loop file tables nodes steps flags₀ order₀ hint₀ codes sources stack₀ met₀ placed₀ noted₀ root₀ flags order hint stack met placed noted root = length nodes - root
 
 loop-holds : tie.Need-loop-holds Inv-loop μ-loop
-loop-holds c = (refl, refl, refl, length-replicate {A = ℕ} 1024 0, length-replicate {A = ℕ} 1024 0, c .before .before .before .before .before .before .pre .2)
+loop-holds c = (refl, refl, refl, length-replicate {A = ℕ} 1024 0, length-replicate {A = ℕ} 1024 0, c .before .before .before .before .before .before .before .before .pre .2)
 
 slice-aggregate-walk-from : tie.Need-slice-aggregate-walk-from Inv-loop μ-loop
 slice-aggregate-walk-from c = sym (c .before .before .before .before .loop .inv .3)
@@ -24,7 +24,7 @@ slice-aggregate-walk-from-2 : tie.Need-slice-aggregate-walk-from-2 Inv-loop μ-l
 slice-aggregate-walk-from-2 c = sym (c .before .before .before .before .before .loop .inv .4)
 
 walk-from-requires : tie.Need-walk-from-requires Inv-loop μ-loop
-walk-from-requires c κs = (c .before .before .before .before .before .before .before .before .before .before .before .before .before .pre .0, c .before .before .before .before .before .before .before .before .before .before .before .before .before .pre .1, c .before .before .before .before .before .loop-test .taken, omega arith, c .before .before .before .before .before .before .loop .inv .5)
+walk-from-requires c κs = (c .before .before .before .before .before .before .before .before .before .before .before .before .before .before .before .pre .0, c .before .before .before .before .before .before .before .before .before .before .before .before .before .before .before .pre .1, c .before .before .before .before .before .loop-test .taken, omega arith, c .before .before .before .before .before .before .loop .inv .5, c .before .before .before .before .before .before .before .before .before .before .before .before .before .before .before .pre .3)
 
 add-root : tie.Need-add-root Inv-loop μ-loop
 add-root c = omega arith

@@ -1,0 +1,31 @@
+// Total reads and writes of work areas: past the end there is 0, and nothing is written.
+ghost use mathlib.Core.Path.{_≡_};
+ghost use lib.ListN.{getD, set};
+
+pub fn flag_at(flags: &[u8], i: usize) -> u8
+    ensures { λ r. ⌜ r ≡ getD (now (flags .entry)) i 0 ⌝ }
+{
+    if i < flags.len() { flags[i] } else { 0 }
+}
+
+pub fn number_at(numbers: &[u16], i: usize) -> u16
+    ensures { λ r. ⌜ r ≡ getD (now (numbers .entry)) i 0 ⌝ }
+{
+    if i < numbers.len() { numbers[i] } else { 0 }
+}
+
+pub fn put_flag(flags: &mut [u8], i: usize, x: u8)
+    ensures { λ _. ⌜ now (flags .exit) ≡ set (now (flags .entry)) i x ⌝ }
+{
+    if i < flags.len() {
+        flags[i] = x;
+    }
+}
+
+pub fn put_number(numbers: &mut [u16], i: usize, x: u16)
+    ensures { λ _. ⌜ now (numbers .exit) ≡ set (now (numbers .entry)) i x ⌝ }
+{
+    if i < numbers.len() {
+        numbers[i] = x;
+    }
+}

@@ -1,0 +1,103 @@
+-- Check 8, over plain values. Assumes nothing.
+use mathlib.Core.Path.{_≡_, refl, sym, ap, _∙_}
+use mathlib.Core.Logic.{⊎-elim}
+use mathlib.Core.Bool.{Bool, true, false, not, cond, _||_, _&&_}
+use mathlib.Core.List.{List}
+use Prim.Native.Nat.{ℕ, zero, suc, _+_, _*_, _≤_, _<_}
+use native.Mathlib.Nat.{not-suc-le-zero}
+use native.Mathlib.Omega.{arith}
+use native.Mathlib.Numerals.{add-one}
+use lib.ListN.{length, getD, set, replicate, length-set, length-replicate, getD-replicate}
+use lib.Seq.{getD-set-same, getD-set-other}
+use lib.Dec.{eqb, ltb}
+use borrow.Author.Tests.{lt-ltb}
+use Rattle.lists.specs.Lists.{anyBelow, one}
+use Rattle.lists.specs.BelowLaws.{true-or-false, eqb-true, eqb-differ}
+use Rattle.netlist.specs.Net.{Net, size, elementAt, source, operands, isInput, isOutput}
+use Rattle.netlist.specs.Reach.{readsTest}
+use Rattle.netlist.specs.Verdict.{unread}
+use Rattle.netlist.specs.declared.Element.{Element}
+use Rattle.netlist.specs.declared.Element.the-variants.{Input, Output, Register, Async, Clocked, Gate}
+use Rattle.netlist.specs.NodeField.{opNumber}
+use Rattle.nodes.specs.Code.{codeOf}
+use Rattle.columns.specs.Columns.{Columns, source-is, any-same}
+use Rattle.rules.specs.Marks.{Marks, Marked}
+
+pub marked-none : (sources : ℕ → ℕ) (l : List ℕ) → Marked sources 0 l l
+marked-none sources l = record { kept = refl; each = λ u h. refl }
+
+chosen : (q a : Bool) (x : ℕ) → q ≡ true → 1 ≡ cond (q || a) 1 x
+chosen q a x e = sym (ap (λ (b : Bool). cond (b || a) 1 x) e)
+
+passed : (q a : Bool) (x : ℕ) → q ≡ false → cond a 1 x ≡ cond (q || a) 1 x
+passed q a x e = sym (ap (λ (b : Bool). cond (b || a) 1 x) e)
+
+-- one source more
+pub marked-more : {sources : ℕ → ℕ} {before after : List ℕ} {p : ℕ} → Marked sources p before after → Marked sources (p + 1) before (set after (sources p) 1)
+marked-more {sources} {before} {after} {p} m = record {
+  kept = length-set after (sources p) 1 ∙ m .kept;
+  each = λ u h. step u h ∙ ap (λ (k : ℕ). cond (anyBelow k (λ i. eqb (sources i) u)) 1 (getD before u 0)) (sym (add-one p));
+}
+  where
+    step : (u : ℕ) → u < length before → getD (set after (sources p) 1) u 0 ≡ cond (anyBelow (suc p) (λ i. eqb (sources i) u)) 1 (getD before u 0)
+    step u h =
+        ⊎-elim
+        (λ t. ap (λ (k : ℕ). getD (set after k 1) u 0) (eqb-true t) ∙ getD-set-same after u 1 0 (omega (arith, m .kept)) ∙ chosen _ (anyBelow p (λ i. eqb (sources i) u)) (getD before u 0) t)
+        (λ t. getD-set-other after (sources p) u 1 0 (λ e. eqb-differ t (sym e)) ∙ m .each u h ∙ passed _ (anyBelow p (λ i. eqb (sources i) u)) (getD before u 0) t)
+        (true-or-false (eqb (sources p) u))
+
+one-of : (q a : Bool) → cond q 1 (one a) ≡ one (q || a)
+one-of true a = refl
+one-of false a = refl
+
+hidden : (port any : Bool) → 0 < one any → false ≡ (not port && not any)
+hidden true any h = refl
+hidden false true h = refl
+hidden false false h = absurd (not-suc-le-zero h)
+
+shown : (port any : Bool) → one any ≤ 0 → not port ≡ (not port && not any)
+shown true any h = refl
+shown false true h = absurd (not-suc-le-zero h)
+shown false false h = refl
+
+-- a port is told by its code
+port-code : (e : Element) → ltb 1 (codeOf e) ≡ not (isInput e || isOutput e)
+port-code Input = refl
+port-code Output = refl
+port-code (Register r) = refl
+port-code (Async m) = refl
+port-code (Clocked m r) = refl
+port-code (Gate o) = lt-ltb 1 (5 + opNumber o) (omega arith)
+
+module _ (N : Net) where
+  pub no-marks : (k : ℕ) → size N ≤ k → Marks N (replicate k 0) 0
+  no-marks k h = record { room = simp length-replicate h; each = λ u l. getD-replicate k u 0 0 (omega arith) }
+
+  -- one reader more
+  pub marks-more : {before after codes sources : List ℕ} {x n m : ℕ} → Columns N codes sources m → x < m → n ≡ operands (elementAt N x) → n ≤ 3
+      → Marks N before x → Marked (λ p. getD sources (3 * x + p) 0) n before after → Marks N after (x + 1)
+  unfolding readsTest
+  marks-more {before} {after} {codes} {sources} {x} {n} t l k few m w = record {
+    room = let r = m .room in let l = w .kept in omega arith;
+    each = λ u h.
+        w .each u (let r = m .room in omega arith)
+        ∙ ap (λ (b : Bool). cond b 1 (getD before u 0)) (any-same n (λ p. eqb (getD sources (3 * x + p) 0) u) (λ p. eqb (source N x p) u) (λ p a. ap (λ (s : ℕ). eqb s u) (source-is N t x p (3 * x + p) l (omega arith) refl)))
+        ∙ ap (λ (j : ℕ). cond (anyBelow j (λ p. eqb (source N x p) u)) 1 (getD before u 0)) k
+        ∙ ap (cond (readsTest N x u) 1) (m .each u h)
+        ∙ one-of (readsTest N x u) (anyBelow x (λ z. readsTest N z u))
+        ∙ ap (λ (j : ℕ). one (anyBelow j (λ z. readsTest N z u))) (sym (add-one x));
+  }
+
+  module _ {marks : List ℕ} {n : ℕ} (s : size N ≡ n) (m : Marks N marks n) (v : ℕ) (h : v < size N) where
+    counted : getD marks v 0 ≡ one (anyBelow (size N) (λ z. readsTest N z v))
+    counted = m .each v h ∙ ap (λ (k : ℕ). one (anyBelow k (λ z. readsTest N z v))) (sym s)
+
+    pub read : 0 < getD marks v 0 → false ≡ unread N v
+    unfolding unread
+    read l = hidden (isInput (elementAt N v) || isOutput (elementAt N v)) (anyBelow (size N) (λ z. readsTest N z v)) (omega (arith, counted))
+
+    pub unmarked : getD marks v 0 ≤ 0 → (k : ℕ) → k ≡ codeOf (elementAt N v) → ltb 1 k ≡ unread N v
+    unfolding unread
+    unmarked l k q =
+        ap (ltb 1) q ∙ port-code (elementAt N v)
+        ∙ shown (isInput (elementAt N v) || isOutput (elementAt N v)) (anyBelow (size N) (λ z. readsTest N z v)) (omega (arith, counted))

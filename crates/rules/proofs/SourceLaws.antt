@@ -1,0 +1,47 @@
+-- Check 6 of one node, over plain values. Assumes nothing.
+use mathlib.Core.Path.{_≡_, refl, sym, ap, _∙_}
+use mathlib.Core.Bool.{Bool, true, false, not, _||_}
+use mathlib.Core.List.{List}
+use Prim.Native.Nat.{ℕ, _+_, _*_, _≤_, _<_}
+use native.Mathlib.Omega.{arith}
+use lib.ListN.{getD}
+use lib.Dec.{eqb}
+use borrow.Author.Tests.{ne-eqb}
+use Rattle.lists.specs.Lists.{anyBelow}
+use Rattle.netlist.specs.Net.{Table, Net, elementAt, source, operands, isOutput}
+use Rattle.netlist.specs.Verdict.{tableThere, noSource, badSource}
+use Rattle.netlist.specs.declared.Element.{Element}
+use Rattle.netlist.specs.declared.Element.the-variants.{Input, Output, Register, Async, Clocked, Gate}
+use Rattle.netlist.specs.NodeField.{opNumber}
+use Rattle.nodes.specs.Code.{codeOf}
+use Rattle.columns.specs.Columns.{Columns, source-is, any-same}
+
+-- what the code tells: an output port, and that there is no table to look for
+pub output-code : (e : Element) → eqb (codeOf e) 1 ≡ isOutput e
+output-code Input = refl
+output-code Output = refl
+output-code (Register r) = refl
+output-code (Async m) = refl
+output-code (Clocked m r) = refl
+output-code (Gate o) = ne-eqb (5 + opNumber o) 1 (λ d. omega arith)
+
+pub no-rom : (ts : List Table) (e : Element) → (codeOf e ≡ 3 → ⊥) → (codeOf e ≡ 4 → ⊥) → false ≡ not (tableThere ts e)
+no-rom ts Input a b = refl
+no-rom ts Output a b = refl
+no-rom ts (Register r) a b = refl
+no-rom ts (Async m) a b = absurd (a refl)
+no-rom ts (Clocked m r) a b = absurd (b refl)
+no-rom ts (Gate o) a b = refl
+
+module _ (N : Net) (v : ℕ) where
+  pub missing : not (tableThere (N .tables) (elementAt N v)) ≡ true → true ≡ badSource N v
+  unfolding badSource
+  missing h = sym (ap (λ (b : Bool). b || anyBelow (operands (elementAt N v)) (λ p. noSource N (source N v p))) h)
+
+  pub there : {codes sources : List ℕ} {m : ℕ} → Columns N codes sources m → v < m → not (tableThere (N .tables) (elementAt N v)) ≡ false → (n : ℕ) → n ≡ operands (elementAt N v) → n ≤ 3
+      → (r : Bool) → r ≡ anyBelow n (λ p. noSource N (getD sources (3 * v + p) 0)) → r ≡ badSource N v
+  unfolding badSource
+  there {codes} {sources} t l h n q few r k =
+      k ∙ any-same n (λ p. noSource N (getD sources (3 * v + p) 0)) (λ p. noSource N (source N v p)) (λ p a. ap (noSource N) (source-is N t v p (3 * v + p) l (omega arith) refl))
+      ∙ ap (λ (m : ℕ). anyBelow m (λ p. noSource N (source N v p))) q
+      ∙ sym (ap (λ (b : Bool). b || anyBelow (operands (elementAt N v)) (λ p. noSource N (source N v p))) h)

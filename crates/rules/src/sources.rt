@@ -1,0 +1,156 @@
+// Check 6: no such node or table, or an output port as source.
+use index::node;
+use index::wide;
+use netlist::Element;
+use nodes::code_sources;
+ghost use mathlib.Core.Path.{_≡_};
+ghost use mathlib.Core.List.{List};
+ghost use mathlib.Core.Bool.{not};
+ghost use Prim.Native.Nat.{_+_, _<_, _≤_};
+ghost use lib.ListN.{length, getD};
+ghost use Rattle.lists.specs.Lists.{anyBelow, lowest};
+ghost use Rattle.netlist.specs.Net.{Table, elementAt, operands};
+ghost use Rattle.columns.specs.Columns.{Columns};
+ghost use Rattle.netlist.specs.Verdict.{tableThere, noSource, badSource};
+ghost use Rattle.netlist.specs.ScanLaws.{Found};
+ghost use Rattle.netlist.specs.File.{netIn};
+
+// Whether an element's table is one of so many.
+fn table_there(e: Element, count: usize) -> bool
+    ensures { λ r. ⌜ ((ts : List Table) → length ts ≡ count → r ≡ tableThere ts e) ⌝ }
+{
+    match e {
+        Element::Input => true,
+        Element::Output => true,
+        Element::Register(_) => true,
+        Element::Async(m) => {
+            let k = m.table;
+            (k as usize) < count
+        }
+        Element::Clocked(m, _) => {
+            let k = m.table;
+            (k as usize) < count
+        }
+        Element::Gate(_) => true,
+    }
+}
+
+// Whether the table of node v is missing. Only a ROM is read for it: the code tells all others.
+fn table_missing(
+    file: &[u8],
+    tables: &[u16],
+    nodes: &[u16],
+    v: usize,
+    codes: &[u8],
+    sources: &[u16],
+) -> bool
+    requires { ⌜ Found (now file) (now tables) (now nodes) × (v < length (now nodes)) × Columns (netIn (now file) (now tables) (now nodes)) (now codes) (now sources) (length (now nodes)) ⌝ }
+    ensures { λ r. ⌜ r ≡ not (tableThere (netIn (now (file .entry)) (now (tables .entry)) (now (nodes .entry)) .tables) (elementAt (netIn (now (file .entry)) (now (tables .entry)) (now (nodes .entry))) v)) ⌝ }
+{
+    let code = codes[v];
+    if code < 3 {
+        return false;
+    }
+    if 4 < code {
+        return false;
+    }
+    let x = node(file, tables, nodes, v);
+    let e = x.element;
+    if table_there(e, tables.len()) {
+        false
+    } else {
+        true
+    }
+}
+
+// Whether u is no node, or an output port.
+fn no_source(
+    file: &[u8],
+    tables: &[u16],
+    nodes: &[u16],
+    u: usize,
+    codes: &[u8],
+    sources: &[u16],
+) -> bool
+    requires { ⌜ Found (now file) (now tables) (now nodes) × Columns (netIn (now file) (now tables) (now nodes)) (now codes) (now sources) (length (now nodes)) ⌝ }
+    ensures { λ r. ⌜ r ≡ noSource (netIn (now (file .entry)) (now (tables .entry)) (now (nodes .entry))) u ⌝ }
+{
+    if u < nodes.len() { codes[u] == 1 } else { true }
+}
+
+// Whether one of the n sources from a place on is no source.
+fn any_no_source(
+    file: &[u8],
+    tables: &[u16],
+    nodes: &[u16],
+    from: usize,
+    n: usize,
+    codes: &[u8],
+    sources: &[u16],
+) -> bool
+    requires { ⌜ Found (now file) (now tables) (now nodes) × (from + n ≤ length (now sources)) × Columns (netIn (now file) (now tables) (now nodes)) (now codes) (now sources) (length (now nodes)) ⌝ }
+    ensures { λ r. ⌜ r ≡ anyBelow n (λ p. noSource (netIn (now (file .entry)) (now (tables .entry)) (now (nodes .entry))) (getD (now (sources .entry)) (from + p) 0)) ⌝ }
+{
+    let mut p: usize = 0;
+    while p < n {
+        if no_source(file, tables, nodes, wide(sources[from + p]), codes, sources) {
+            return true;
+        }
+        p = p + 1;
+    }
+    false
+}
+
+// How many sources node v has.
+pub fn count_at(
+    file: &[u8],
+    tables: &[u16],
+    nodes: &[u16],
+    v: usize,
+    codes: &[u8],
+    sources: &[u16],
+) -> usize
+    requires { ⌜ Columns (netIn (now file) (now tables) (now nodes)) (now codes) (now sources) (length (now nodes)) × (v < length (now nodes)) × (v < 1024) ⌝ }
+    ensures { λ r. ⌜ (r ≡ operands (elementAt (netIn (now (file .entry)) (now (tables .entry)) (now (nodes .entry))) v)) × (r ≤ 3) ⌝ }
+{
+    code_sources(codes[v] as usize)
+}
+
+fn bad_source(
+    file: &[u8],
+    tables: &[u16],
+    nodes: &[u16],
+    v: usize,
+    codes: &[u8],
+    sources: &[u16],
+) -> bool
+    requires { ⌜ Found (now file) (now tables) (now nodes) × (v < length (now nodes)) × Columns (netIn (now file) (now tables) (now nodes)) (now codes) (now sources) (length (now nodes)) ⌝ }
+    ensures { λ r. ⌜ r ≡ badSource (netIn (now (file .entry)) (now (tables .entry)) (now (nodes .entry))) v ⌝ }
+{
+    if table_missing(file, tables, nodes, v, codes, sources) {
+        return true;
+    }
+    let n = count_at(file, tables, nodes, v, codes, sources);
+    any_no_source(file, tables, nodes, 3 * v, n, codes, sources)
+}
+
+// The lowest node that check 6 refuses, or the number of nodes.
+pub fn lowest_bad_source(
+    file: &[u8],
+    tables: &[u16],
+    nodes: &[u16],
+    codes: &[u8],
+    sources: &[u16],
+) -> usize
+    requires { ⌜ Found (now file) (now tables) (now nodes) × Columns (netIn (now file) (now tables) (now nodes)) (now codes) (now sources) (length (now nodes)) ⌝ }
+    ensures { λ r. ⌜ r ≡ lowest (length (now (nodes .entry))) (badSource (netIn (now (file .entry)) (now (tables .entry)) (now (nodes .entry)))) ⌝ }
+{
+    let mut v: usize = 0;
+    while v < nodes.len() {
+        if bad_source(file, tables, nodes, v, codes, sources) {
+            return v;
+        }
+        v = v + 1;
+    }
+    v
+}

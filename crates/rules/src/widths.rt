@@ -1,0 +1,189 @@
+// Check 7: the width rules.
+use index::address_bits;
+use index::node;
+use index::wide;
+use index::word_width;
+use netlist::Element;
+use netlist::Memory;
+use words::Op;
+ghost use mathlib.Core.Path.{_≡_};
+ghost use mathlib.Core.Bool.{_&&_};
+ghost use lib.Dec.{eqb};
+ghost use Prim.Native.Nat.{ℕ, _+_, _<_};
+ghost use lib.ListN.{length, getD};
+ghost use Rattle.lists.specs.Lists.{lowest};
+ghost use Rattle.netlist.specs.Net.{noTable, elementAt, widthAt};
+ghost use Rattle.nodes.specs.Code.{codeOf};
+ghost use Rattle.columns.specs.Columns.{Columns, Widths};
+ghost use Rattle.netlist.specs.Verdict.{opWidths, memoryRight, widthsRight, badWidth};
+ghost use Rattle.netlist.specs.ScanLaws.{Found};
+ghost use Rattle.netlist.specs.File.{netIn};
+ghost use Rattle.rules.specs.Three.{three};
+
+// Whether two widths are both w.
+fn both_are(w: u8, a: u8, b: u8) -> bool
+    ensures { λ r. ⌜ r ≡ (eqb a w && eqb b w) ⌝ }
+{
+    if a == w { b == w } else { false }
+}
+
+// Whether a comparison's widths are equal and its own is 1.
+fn compares(w: u8, a: u8, b: u8) -> bool
+    ensures { λ r. ⌜ r ≡ (eqb a b && eqb w 1) ⌝ }
+{
+    if a == b { w == 1 } else { false }
+}
+
+// Whether a choice has a selector of one bit and two sources of its width.
+fn chooses(w: u8, a: u8, b: u8, c: u8) -> bool
+    ensures { λ r. ⌜ r ≡ (eqb a 1 && (eqb b w && eqb c w)) ⌝ }
+{
+    if a == 1 { both_are(w, b, c) } else { false }
+}
+
+// The width rule of an operation of width w over sources of widths a, b and c.
+fn op_widths(op: Op, w: u8, a: u8, b: u8, c: u8) -> bool
+    ensures { λ r. ⌜ r ≡ opWidths op w (three a b c) ⌝ }
+{
+    match op {
+        Op::Constant(_) => true,
+        Op::Not => a == w,
+        Op::And => both_are(w, a, b),
+        Op::Or => both_are(w, a, b),
+        Op::Xor => both_are(w, a, b),
+        Op::Add => both_are(w, a, b),
+        Op::Subtract => both_are(w, a, b),
+        Op::Equal => compares(w, a, b),
+        Op::Less => compares(w, a, b),
+        Op::Choose => chooses(w, a, b, c),
+        Op::Part(low) => (low as u32) + (w as u32) <= (a as u32),
+        Op::Join => (a as u32) + (b as u32) == (w as u32),
+    }
+}
+
+// The width rule of a ROM of width w whose source has width a.
+fn memory_widths(file: &[u8], tables: &[u16], nodes: &[u16], m: Memory, w: u8, a: u8) -> bool
+    requires { ⌜ Found (now file) (now tables) (now nodes) ⌝ }
+    ensures { λ r. ⌜ ((ws : ℕ → ℕ) → ws 0 ≡ a → r ≡ memoryRight (getD (netIn (now (file .entry)) (now (tables .entry)) (now (nodes .entry)) .tables) (m .table) noTable) m w ws) ⌝ }
+{
+    let k = m.table as usize;
+    if a == address_bits(file, tables, nodes, k) {
+        w == word_width(file, tables, nodes, k)
+    } else {
+        false
+    }
+}
+
+// The width rule of an element.
+fn element_widths(
+    file: &[u8],
+    tables: &[u16],
+    nodes: &[u16],
+    e: Element,
+    w: u8,
+    a: u8,
+    b: u8,
+    c: u8,
+) -> bool
+    requires { ⌜ Found (now file) (now tables) (now nodes) ⌝ }
+    ensures { λ r. ⌜ r ≡ widthsRight (netIn (now (file .entry)) (now (tables .entry)) (now (nodes .entry)) .tables) e w (three a b c) ⌝ }
+{
+    match e {
+        Element::Input => true,
+        Element::Output => a == w,
+        Element::Register(_) => a == w,
+        Element::Async(m) => memory_widths(file, tables, nodes, m, w, a),
+        Element::Clocked(m, _) => memory_widths(file, tables, nodes, m, w, a),
+        Element::Gate(op) => op_widths(op, w, a, b, c),
+    }
+}
+
+// The width of node u; past the last 1, as the definitions say.
+fn width_of(file: &[u8], tables: &[u16], nodes: &[u16], u: usize, widths: &[u8]) -> u8
+    requires { ⌜ Found (now file) (now tables) (now nodes) × Widths (netIn (now file) (now tables) (now nodes)) (now widths) (length (now nodes)) ⌝ }
+    ensures { λ r. ⌜ r ≡ widthAt (netIn (now (file .entry)) (now (tables .entry)) (now (nodes .entry))) u ⌝ }
+{
+    if u < nodes.len() { widths[u] } else { 1 }
+}
+
+// The width rule of node v, by its code where that says all; a ROM and a part are read.
+fn width_rule(
+    file: &[u8],
+    tables: &[u16],
+    nodes: &[u16],
+    v: usize,
+    code: u8,
+    w: u8,
+    a: u8,
+    b: u8,
+    c: u8,
+) -> bool
+    requires { ⌜ Found (now file) (now tables) (now nodes) × (v < length (now nodes)) × (code ≡ codeOf (elementAt (netIn (now file) (now tables) (now nodes)) v)) ⌝ }
+    ensures { λ r. ⌜ r ≡ widthsRight (netIn (now (file .entry)) (now (tables .entry)) (now (nodes .entry)) .tables) (elementAt (netIn (now (file .entry)) (now (tables .entry)) (now (nodes .entry))) v) w (three a b c) ⌝ }
+{
+    match code {
+        0 => true,
+        1 => a == w,
+        2 => a == w,
+        5 => true,
+        6 => a == w,
+        7 => both_are(w, a, b),
+        8 => both_are(w, a, b),
+        9 => both_are(w, a, b),
+        10 => both_are(w, a, b),
+        11 => both_are(w, a, b),
+        12 => compares(w, a, b),
+        13 => compares(w, a, b),
+        14 => chooses(w, a, b, c),
+        _ => {
+            let x = node(file, tables, nodes, v);
+            let e = x.element;
+            element_widths(file, tables, nodes, e, w, a, b, c)
+        }
+    }
+}
+
+fn bad_width(
+    file: &[u8],
+    tables: &[u16],
+    nodes: &[u16],
+    v: usize,
+    codes: &[u8],
+    sources: &[u16],
+    widths: &[u8],
+) -> bool
+    requires { ⌜ Found (now file) (now tables) (now nodes) × (v < length (now nodes)) × Columns (netIn (now file) (now tables) (now nodes)) (now codes) (now sources) (length (now nodes)) × Widths (netIn (now file) (now tables) (now nodes)) (now widths) (length (now nodes)) ⌝ }
+    ensures { λ r. ⌜ r ≡ badWidth (netIn (now (file .entry)) (now (tables .entry)) (now (nodes .entry))) v ⌝ }
+{
+    let from = 3 * v;
+    let a = width_of(file, tables, nodes, wide(sources[from]), widths);
+    let b = width_of(file, tables, nodes, wide(sources[from + 1]), widths);
+    let c = width_of(file, tables, nodes, wide(sources[from + 2]), widths);
+    if width_rule(file, tables, nodes, v, codes[v], widths[v], a, b, c) {
+        false
+    } else {
+        true
+    }
+}
+
+// The lowest node that check 7 refuses, or the number of nodes.
+pub fn lowest_bad_width(
+    file: &[u8],
+    tables: &[u16],
+    nodes: &[u16],
+    codes: &[u8],
+    sources: &[u16],
+    widths: &[u8],
+) -> usize
+    requires { ⌜ Found (now file) (now tables) (now nodes) × Columns (netIn (now file) (now tables) (now nodes)) (now codes) (now sources) (length (now nodes)) × Widths (netIn (now file) (now tables) (now nodes)) (now widths) (length (now nodes)) ⌝ }
+    ensures { λ r. ⌜ r ≡ lowest (length (now (nodes .entry))) (badWidth (netIn (now (file .entry)) (now (tables .entry)) (now (nodes .entry)))) ⌝ }
+{
+    let mut v: usize = 0;
+    while v < nodes.len() {
+        if bad_width(file, tables, nodes, v, codes, sources, widths) {
+            return v;
+        }
+        v = v + 1;
+    }
+    v
+}
