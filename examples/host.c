@@ -1,4 +1,4 @@
-/* Runs a small netlist with an asynchronous ROM, and the one with a clocked ROM that stands for it, side by side for five clocks. */
+/* Rewrites a small netlist with an asynchronous ROM into one with a clocked ROM, and runs both side by side for five clocks. */
 #include <stdio.h>
 #include <string.h>
 
@@ -15,15 +15,16 @@ static const uint8_t old_file[] = {
     0x04, 0x00, 0x00                                            /* end */
 };
 
-/* The same with a clocked ROM: the file that the specification gives for it, byte for byte. */
-static const uint8_t new_file[] = {
-    0x01, 0x00, 0x01, 0x01, 0x02, 0x00, 0x0A, 0x02, 0x02, 0x00, 0x03, 0x00, 0x01, 0x00, 0x02, 0x00, 0x02,
+/* What the specification gives for it, byte for byte. */
+static const uint8_t expected_file[] = {
+    0x01, 0x00, 0x01, 0x01,                                     /* head */
+    0x02, 0x00, 0x0A, 0x02, 0x02, 0, 3, 0, 1, 0, 2, 0, 2,       /* table 0 */
     0x03, 0x00, 0x07, 0x04, 0x02, 0x00, 0x01, 0x00, 0x00, 0x01, /* 0 clocked ROM of 1, reset 1 */
     0x03, 0x00, 0x07, 0x05, 0x02, 0x05, 0x00, 0x03, 0x00, 0x00, /* 1 add of 3 and 0 */
     0x03, 0x00, 0x04, 0x01, 0x02, 0x00, 0x04,                   /* 2 output of 4 */
     0x03, 0x00, 0x06, 0x02, 0x02, 0x00, 0x01, 0x00, 0x01,       /* 3 register of 1, reset 1 */
     0x03, 0x00, 0x06, 0x02, 0x02, 0x00, 0x01, 0x00, 0x01,       /* 4 register of 1, reset 1 */
-    0x04, 0x00, 0x00
+    0x04, 0x00, 0x00                                            /* end */
 };
 
 /* Prints a refusal, and tells whether there is one. */
@@ -40,15 +41,24 @@ static int refused(const char *call, uint32_t answer)
 int main(void)
 {
     static const unsigned expected[] = {1, 2, 0, 3, 1};
+    static uint8_t new_file[PUNQELIS_MAX_FILE]; /* no rewritten file is longer */
     uint8_t old_state[2]; /* the register */
     uint8_t new_state[6]; /* the clocked ROM, and a register for each reader of the add */
     const uint8_t no_inputs[1] = {0};
+    uint32_t new_len = punqelis_rewrite(old_file, sizeof old_file, new_file, sizeof new_file);
     size_t clock;
 
-    if (refused("check", punqelis_check(old_file, sizeof old_file))
-        || refused("check", punqelis_check(new_file, sizeof new_file))
+    if (refused("rewrite", new_len))
+        return 1;
+    printf("rewritten: %u bytes into %u\n", (unsigned)sizeof old_file, (unsigned)new_len);
+    if (new_len != sizeof expected_file || memcmp(new_file, expected_file, new_len) != 0) {
+        printf("not the expected file\n");
+        return 1;
+    }
+
+    if (refused("check", punqelis_check(new_file, new_len))
         || refused("reset", punqelis_reset(old_file, sizeof old_file, old_state, sizeof old_state))
-        || refused("reset", punqelis_reset(new_file, sizeof new_file, new_state, sizeof new_state)))
+        || refused("reset", punqelis_reset(new_file, new_len, new_state, sizeof new_state)))
         return 1;
 
     for (clock = 0; clock < sizeof expected / sizeof expected[0]; clock++) {
@@ -57,7 +67,7 @@ int main(void)
 
         if (refused("run", punqelis_run(old_file, sizeof old_file, old_state, sizeof old_state,
                                         no_inputs, 0, old_out, sizeof old_out))
-            || refused("run", punqelis_run(new_file, sizeof new_file, new_state, sizeof new_state,
+            || refused("run", punqelis_run(new_file, new_len, new_state, sizeof new_state,
                                            no_inputs, 0, new_out, sizeof new_out)))
             return 1;
         old_word = old_out[0] * 256u + old_out[1];

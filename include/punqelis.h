@@ -1,5 +1,5 @@
 /*
- * Punqelis: checks and runs netlist files.
+ * Punqelis: checks, runs and rewrites netlist files.
  *
  * A netlist file describes a clocked circuit of ports, registers, ROMs and gates.
  *
@@ -16,7 +16,7 @@
  *
  * Memory. The caller lends the memory that is read and written; none of it is kept after a call.
  * A pointer must not be NULL, also where its length is 0. Memory that a function writes (state,
- * outputs) must not overlap with any other memory lent to the same call. When a call is
+ * outputs, out) must not overlap with any other memory lent to the same call. When a call is
  * refused, no lent byte has changed. Bytes past the length that is answered are never changed.
  *
  * Refusals, in the order in which they are looked for:
@@ -31,6 +31,10 @@
  *    8 unread       no reader, and not a port                             lowest such node
  *    9 loop         a loop of gates and asynchronous ROMs                 lowest node on one
  *   10 ring         a ring of registers alone                             lowest node on one
+ *   11 closed debt  a loop with more asynchronous ROMs than registers     place 65,535
+ *   12 port debt    an input port's words would be needed too early       lowest such port
+ *   13 grown        the rewritten netlist has over 1,024 nodes            place 65,535
+ *   14 out          the output is shorter than the rewritten file         place 65,535
  *   15 words        inputs or outputs do not fit the file                 place 65,535
  *   16 state        the state does not fit the file                       place 65,535
  */
@@ -65,6 +69,16 @@ uint32_t punqelis_run(const uint8_t *file, size_t file_len,
                       uint8_t *state, size_t state_len,
                       const uint8_t *inputs, size_t inputs_len,
                       uint8_t *outputs, size_t outputs_len);
+
+/* Rewrites a file: writes to out a file whose ROMs are all clocked and which gives the same
+ * outputs from the first clock after reset on. Checks 1 to 10, then 11 to 14. Answers the new
+ * file's length, which can be more or less than file_len; the bytes of out behind it stay.
+ * out must not overlap with the file. PUNQELIS_MAX_FILE bytes are always enough for it, since
+ * no rewritten file has over 45,143. The new file passes punqelis_check and has as many input
+ * and output ports, in the same order. Its state has a length of its own: two bytes for each
+ * of its nodes of kind 2 (register) and 4 (clocked ROM). */
+uint32_t punqelis_rewrite(const uint8_t *file, size_t file_len,
+                          uint8_t *out, size_t out_len);
 
 #ifdef __cplusplus
 }
