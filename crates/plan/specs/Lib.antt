@@ -3,6 +3,7 @@ pub mod WiringLaws
 pub mod Threes
 pub mod Entries
 pub mod EntriesLaws
+pub mod Copies
 pub mod Registers
 pub mod RegistersLaws
 pub mod Plan

@@ -1,17 +1,21 @@
 // The nodes of the rewritten netlist that are no registers, in the file's order: an old node that is no register once, a ROM once for each different reset word.
+use super::copies::sum_wires;
 use super::wiring::memory_bit;
+use areas::flag_at;
 use areas::number_at;
 use areas::put_number;
 use index::node;
 use netlist::Element;
 ghost use mathlib.Core.Path.{_≡_};
-ghost use Prim.Native.Nat.{_+_, _<_, _≤_};
-ghost use lib.ListN.{length};
+ghost use mathlib.Core.Bool.{true};
+ghost use Prim.Native.Nat.{_+_, _*_, _<_, _≤_};
+ghost use lib.ListN.{length, set};
 ghost use Rattle.lists.specs.Lists.{one};
-ghost use Rattle.netlist.specs.Net.{isRegister};
+ghost use Rattle.netlist.specs.Net.{isRegister, isMemory, elementAt};
 ghost use Rattle.netlist.specs.ScanLaws.{Found};
 ghost use Rattle.netlist.specs.File.{netIn};
 ghost use Rattle.plan.specs.Entries.{Finds, Placing, Adds, Wants, AddsAll, entriesBefore, AllPlaced};
+ghost use Rattle.plan.specs.Copies.{Summed};
 
 // The first place from one on that has the word; where none up to another has it, that one.
 pub fn find_from(words: &[u16], c: u16, from: usize, to: usize) -> usize
@@ -90,6 +94,54 @@ fn register_bit(e: Element) -> usize
     }
 }
 
+// Adds the entry of node u with a word.
+fn add_entry(u: usize, word: u16, count: usize, owners: &mut [u16], words: &mut [u16]) -> usize
+    requires { ⌜ (u < 1024) × (count ≤ 65535) ⌝ }
+    ensures { λ r. ⌜ (r ≡ count + 1) × (now (owners .exit) ≡ set (now (owners .entry)) count u) × (now (words .exit) ≡ set (now (words .entry)) count word) ⌝ }
+{
+    put_number(owners, count, u as u16);
+    put_number(words, count, word);
+    count + 1
+}
+
+// Adds the entries of ROM u.
+fn place_rom(
+    file: &[u8],
+    tables: &[u16],
+    nodes: &[u16],
+    ends: &[u16],
+    copied: &[u16],
+    counts: &[u8],
+    single: &[u16],
+    u: usize,
+    count: usize,
+    owners: &mut [u16],
+    words: &mut [u16],
+) -> usize
+    requires { ⌜ Found (now file) (now tables) (now nodes) × (u < length (now nodes)) × (count ≤ 1024) × (1024 ≤ length (now owners)) × (1024 ≤ length (now words))
+        × Wants (netIn (now file) (now tables) (now nodes)) (now ends) (now copied) × Summed (now ends) (now copied) (now counts) (now single) (3 * length (now nodes))
+        × Placing (now owners) (now words) (entriesBefore (netIn (now file) (now tables) (now nodes)) u) count
+        × (isMemory (elementAt (netIn (now file) (now tables) (now nodes)) u) ≡ true) ⌝ }
+    ensures { λ r. ⌜ Placing (now (owners .exit)) (now (words .exit)) (entriesBefore (netIn (now (file .entry)) (now (tables .entry)) (now (nodes .entry))) (u + 1)) r × (r ≤ 4096) ⌝ }
+{
+    let kinds = flag_at(counts, u);
+    if kinds == 0 {
+        return count;
+    }
+    if kinds == 1 {
+        return add_entry(u, number_at(single, u), count, owners, words);
+    }
+    add_copies(
+        ends,
+        copied,
+        3 * nodes.len(),
+        u as u16,
+        count,
+        owners,
+        words,
+    )
+}
+
 // Adds the entries of node u.
 fn place(
     file: &[u8],
@@ -97,24 +149,30 @@ fn place(
     nodes: &[u16],
     ends: &[u16],
     copied: &[u16],
+    counts: &[u8],
+    single: &[u16],
     u: usize,
     count: usize,
     owners: &mut [u16],
     words: &mut [u16],
 ) -> usize
     requires { ⌜ Found (now file) (now tables) (now nodes) × (u < length (now nodes)) × (count ≤ 1024) × (1024 ≤ length (now owners)) × (1024 ≤ length (now words))
-        × Wants (netIn (now file) (now tables) (now nodes)) (now ends) (now copied)
+        × Wants (netIn (now file) (now tables) (now nodes)) (now ends) (now copied) × Summed (now ends) (now copied) (now counts) (now single) (3 * length (now nodes))
         × Placing (now owners) (now words) (entriesBefore (netIn (now file) (now tables) (now nodes)) u) count ⌝ }
     ensures { λ r. ⌜ Placing (now (owners .exit)) (now (words .exit)) (entriesBefore (netIn (now (file .entry)) (now (tables .entry)) (now (nodes .entry))) (u + 1)) r × (r ≤ 4096) ⌝ }
 {
     let x = node(file, tables, nodes, u);
     let e = x.element;
     if memory_bit(e) == 1 {
-        return add_copies(
+        return place_rom(
+            file,
+            tables,
+            nodes,
             ends,
             copied,
-            3 * nodes.len(),
-            u as u16,
+            counts,
+            single,
+            u,
             count,
             owners,
             words,
@@ -123,9 +181,7 @@ fn place(
     if register_bit(e) == 1 {
         return count;
     }
-    put_number(owners, count, u as u16);
-    put_number(words, count, 0);
-    count + 1
+    add_entry(u, 0, count, owners, words)
 }
 
 // Adds the entries of all nodes, and keeps where those of each begin. It gives up where there are more than 1,024.
@@ -143,14 +199,30 @@ pub fn place_entries(
         × Wants (netIn (now file) (now tables) (now nodes)) (now ends) (now copied) ⌝ }
     ensures { λ r. ⌜ AllPlaced (netIn (now (file .entry)) (now (tables .entry)) (now (nodes .entry))) (now (owners .exit)) (now (words .exit)) (now (firsts .exit)) r ⌝ }
 {
+    let n = nodes.len();
+    let mut counts = [0u8; 1024];
+    let mut single = [0u16; 1024];
+    sum_wires(ends, copied, 3 * n, &mut counts, &mut single);
     let mut count: usize = 0;
     let mut u: usize = 0;
-    while u < nodes.len() {
+    while u < n {
         if 1024 < count {
             return count;
         }
         put_number(firsts, u, count as u16);
-        count = place(file, tables, nodes, ends, copied, u, count, owners, words);
+        count = place(
+            file,
+            tables,
+            nodes,
+            ends,
+            copied,
+            &counts,
+            &single,
+            u,
+            count,
+            owners,
+            words,
+        );
         u = u + 1;
     }
     count

@@ -1,4 +1,5 @@
 // Where everything goes in the rewritten netlist, and with which reset words: document 01, "Leads and the rewritten file".
+mod copies;
 mod entries;
 mod registers;
 mod wiring;
