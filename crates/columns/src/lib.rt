@@ -1,4 +1,6 @@
 // Reads each node of an indexed file once, into columns that the checks and the run go by: code, width, and three sources a node.
+pub mod kinds;
+
 use index::wide;
 use reader::parts::code_at;
 use reader::parts::sources_at;

@@ -61,7 +61,7 @@ module _ (N : Net) (x : ℕ) (y : Node) (is : y ≡ nodeAt N x) where
 
   -- ---- a visit to reader x
 
-  module _ {roms : List ℕ} {bound : ℕ} (g : Given N roms bound) (h : x < size N) where
+  module _ {roms codes reads : List ℕ} {bound : ℕ} (g : Given N roms codes reads bound) (h : x < size N) where
     pub source-inside : {p u : ℕ} → p < operands (y .element) → u ≡ getD (y .sources) p 0 → u < size N
     unfolding Sourced
     source-inside {p} {u} l e = subst (λ (v : ℕ). v < size N) (sym (e ∙ source-node p)) (g .sourced x p h (subst (λ (n : ℕ). p < n) operands-node l))
@@ -84,3 +84,22 @@ module _ (N : Net) (x : ℕ) (y : Node) (is : y ≡ nodeAt N x) where
     -- a number over the bound asks nothing
     pub relax-over : {L : List ℕ} → Walked N L → bound < getD L x 0 → Progress N L L 0 (Content N x)
     relax-over t o = progress-none N t (λ l. absurd (let c = g .count in omega arith))
+
+-- ---- by columns
+
+module _ (N : Net) (x : ℕ) where
+  pub operand-of : {n p : ℕ} → n ≡ operands (elementAt N x) → p < n → p < operands (nodeAt N x .element)
+  unfolding elementAt
+  operand-of {n} {p} e h = subst (λ (k : ℕ). p < k) e h
+
+  pub operands-done : {n p : ℕ} → n ≡ operands (elementAt N x) → n ≤ p → operands (nodeAt N x .element) ≤ p
+  unfolding elementAt
+  operands-done {n} {p} e h = subst (λ (k : ℕ). k ≤ p) e h
+
+  pub register-of : {b : ℕ} → b ≡ one (isRegister (elementAt N x)) → b ≡ one (isRegister (nodeAt N x .element))
+  unfolding elementAt
+  register-of e = e
+
+  pub async-of : {b : ℕ} → b ≡ one (isAsync (elementAt N x)) → b ≡ one (isAsync (nodeAt N x .element))
+  unfolding elementAt
+  async-of e = e

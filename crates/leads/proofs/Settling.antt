@@ -20,7 +20,7 @@ use Rattle.leads.specs.Debts.{debtsVerdict}
 use Rattle.leads.specs.Progress.{Walked, Given, Quiet, Progress}
 use Rattle.leads.specs.Settled.{LeadsIn, Outcome, settled, debt, quiet-settled, over-debt}
 
-module _ (N : Net) {roms : List ℕ} {bound : ℕ} (g : Given N roms bound) {n : ℕ} (z : size N ≡ n) where
+module _ (N : Net) {roms codes reads : List ℕ} {bound : ℕ} (g : Given N roms codes reads bound) {n : ℕ} (z : size N ≡ n) where
   pub over-found : {L : List ℕ} → Walked N L → anyBelow n (λ v. ltb bound (getD L v 0)) ≡ true → Outcome N L false
   over-found {L} t e =
       let r = anyBelow-elim n (λ v. ltb bound (getD L v 0)) e in
@@ -77,3 +77,9 @@ module _ (N : Net) where
     pub says-neither : n ≤ v → Fine ≡ debtsVerdict N
     unfolding verdict
     says-neither h = sym (past-11 d ∙ skip (atLowest 12 (size N) (owingPort N)) [] (λ u l. lowestFrom-is (owingPort N) 0 n .none-before u zero-le (omega arith)))
+
+-- ---- by columns
+
+pub port-of : (N : Net) (v : ℕ) {b : Bool} → isInput (elementAt N v) ≡ b → isInput (nodeAt N v .element) ≡ b
+unfolding elementAt
+port-of N v e = e

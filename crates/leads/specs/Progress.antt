@@ -7,6 +7,7 @@ use native.Mathlib.Omega.{arith}
 use lib.ListN.{length, getD, set, replicate, length-set, length-replicate}
 use lib.Seq.{getD-set-same, getD-set-other}
 use Rattle.netlist.specs.Net.{Net, size, elementAt, source, operands, Sourced}
+use Rattle.columns.specs.Columns.{Columns}
 use Rattle.order.specs.OrderLaws.{zeros-off}
 use Rattle.retiming.specs.Leads.{asyncHere, registerHere, Walk, here, step, leaves, enters}
 use Rattle.retiming.specs.Elements.{async-le}
@@ -24,8 +25,9 @@ pub record Walked (N : Net) (L : List ℕ) : Type 0 where
   pub room : size N ≤ length L
   pub each : (u : ℕ) → u < size N → Excess N u (getD L u 0)
 
--- what is at hand: every source is a node, asynchronous ROMs are marked, and there are so many
-pub record Given (N : Net) (roms : List ℕ) (bound : ℕ) : Type 0 where
+-- what is at hand: the nodes in columns, every source is a node, asynchronous ROMs are marked, and there are so many
+pub record Given (N : Net) (roms codes reads : List ℕ) (bound : ℕ) : Type 0 where
+  pub columns : Columns N codes reads (size N)
   pub sourced : Sourced N
   pub marked : (v : ℕ) → v < size N → getD roms v 0 ≡ asyncHere N v
   pub count : bound ≡ romCount N

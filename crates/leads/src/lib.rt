@@ -4,65 +4,26 @@ mod worklist;
 use areas::flag_at;
 use areas::number_at;
 use areas::put_flag;
-use index::node;
+use columns::kinds::code_of;
+use columns::kinds::is_kind;
 use index::wide;
-use netlist::Element;
 use netlist::Verdict;
-use nodes::source_count;
+use nodes::code_sources;
 use worklist::spread;
 ghost use mathlib.Core.Path.{_≡_};
 ghost use Prim.Native.Nat.{ℕ, _+_, _<_, _≤_};
 ghost use lib.ListN.{length, getD, replicate};
 ghost use lib.Dec.{ltb};
-ghost use Rattle.lists.specs.Lists.{one, anyBelow, lowest};
-ghost use Rattle.netlist.specs.Net.{isInput, isRegister, isAsync, Sourced};
+ghost use Rattle.lists.specs.Lists.{anyBelow, lowest};
+ghost use Rattle.netlist.specs.Net.{Sourced};
 ghost use Rattle.netlist.specs.ScanLaws.{Found};
 ghost use Rattle.netlist.specs.File.{netIn};
+ghost use Rattle.columns.specs.Columns.{Columns};
 ghost use Rattle.retiming.specs.Leads.{asyncHere, owingPort};
 ghost use Rattle.retiming.specs.AtMostRoms.{romCount};
 ghost use Rattle.leads.specs.Debts.{debtsVerdict};
 ghost use Rattle.leads.specs.Progress.{Walked, Given, Content, Quiet, Raise, Progress};
 ghost use Rattle.leads.specs.Settled.{LeadsIn, Outcome};
-
-// What a walk counts: 1 where it leaves an asynchronous ROM, and 1 where it enters a register.
-fn rom_bit(e: Element) -> u8
-    ensures { λ r. ⌜ r ≡ one (isAsync e) ⌝ }
-{
-    match e {
-        Element::Input => 0,
-        Element::Output => 0,
-        Element::Register(_) => 0,
-        Element::Async(_) => 1,
-        Element::Clocked(_, _) => 0,
-        Element::Gate(_) => 0,
-    }
-}
-
-fn register_bit(e: Element) -> usize
-    ensures { λ r. ⌜ r ≡ one (isRegister e) ⌝ }
-{
-    match e {
-        Element::Input => 0,
-        Element::Output => 0,
-        Element::Register(_) => 1,
-        Element::Async(_) => 0,
-        Element::Clocked(_, _) => 0,
-        Element::Gate(_) => 0,
-    }
-}
-
-fn input_port(e: Element) -> bool
-    ensures { λ r. ⌜ r ≡ isInput e ⌝ }
-{
-    match e {
-        Element::Input => true,
-        Element::Output => false,
-        Element::Register(_) => false,
-        Element::Async(_) => false,
-        Element::Clocked(_, _) => false,
-        Element::Gate(_) => false,
-    }
-}
 
 fn wide_bit(x: u8) -> usize
     ensures { λ r. ⌜ (r ≡ x) × (r ≤ 255) ⌝ }
@@ -71,19 +32,25 @@ fn wide_bit(x: u8) -> usize
 }
 
 // Marks the asynchronous ROMs and gives their number.
-fn mark_roms(file: &[u8], tables: &[u16], nodes: &[u16], roms: &mut [u8]) -> usize
-    requires { ⌜ Found (now file) (now tables) (now nodes) × (length (now nodes) ≤ length (now roms)) ⌝ }
+fn mark_roms(
+    file: &[u8],
+    tables: &[u16],
+    nodes: &[u16],
+    roms: &mut [u8],
+    codes: &[u8],
+    reads: &[u16],
+) -> usize
+    requires { ⌜ Found (now file) (now tables) (now nodes) × (length (now nodes) ≤ length (now roms))
+        × Columns (netIn (now file) (now tables) (now nodes)) (now codes) (now reads) (length (now nodes)) ⌝ }
     ensures { λ r. ⌜ (r ≡ romCount (netIn (now (file .entry)) (now (tables .entry)) (now (nodes .entry))))
         × ((v : ℕ) → v < length (now (nodes .entry)) → getD (now (roms .exit)) v 0 ≡ asyncHere (netIn (now (file .entry)) (now (tables .entry)) (now (nodes .entry))) v) ⌝ }
 {
     let mut count: usize = 0;
     let mut v: usize = 0;
     while v < nodes.len() {
-        let x = node(file, tables, nodes, v);
-        let e = x.element;
-        let rom = rom_bit(e);
-        put_flag(roms, v, rom);
-        count = count + wide_bit(rom);
+        let rom = is_kind(code_of(codes, v), 3);
+        put_flag(roms, v, rom as u8);
+        count = count + rom;
         v = v + 1;
     }
     count
@@ -121,8 +88,10 @@ fn relax(
     bound: usize,
     x: usize,
     leads: &mut [u16],
+    codes: &[u8],
+    reads: &[u16],
 ) -> usize
-    requires { ⌜ Found (now file) (now tables) (now nodes) × Given (netIn (now file) (now tables) (now nodes)) (now roms) bound
+    requires { ⌜ Found (now file) (now tables) (now nodes) × Given (netIn (now file) (now tables) (now nodes)) (now roms) (now codes) (now reads) bound
         × (x < length (now nodes)) × Walked (netIn (now file) (now tables) (now nodes)) (now leads) ⌝ }
     ensures { λ r. ⌜ (r ≤ 3) × Progress (netIn (now (file .entry)) (now (tables .entry)) (now (nodes .entry))) (now (leads .entry)) (now (leads .exit)) r
         (Content (netIn (now (file .entry)) (now (tables .entry)) (now (nodes .entry))) x) ⌝ }
@@ -131,15 +100,13 @@ fn relax(
     if bound < own {
         return 0;
     }
-    let reader = node(file, tables, nodes, x);
-    let e = reader.element;
-    let sources = reader.sources;
-    let taken = register_bit(e);
-    let n = source_count(e);
+    let code = code_of(codes, x);
+    let taken = is_kind(code, 2);
+    let n = code_sources(code);
     let mut raised: usize = 0;
     let mut p: usize = 0;
     while p < n {
-        let u = wide(sources[p]);
+        let u = wide(number_at(reads, 3 * x + p));
         raised = raised + raise(leads, u, wide_bit(flag_at(roms, u)) + own, taken);
         p = p + 1;
     }
@@ -156,8 +123,10 @@ fn pass(
     roms: &[u8],
     bound: usize,
     leads: &mut [u16],
+    codes: &[u8],
+    reads: &[u16],
 ) -> usize
-    requires { ⌜ Found (now file) (now tables) (now nodes) × Given (netIn (now file) (now tables) (now nodes)) (now roms) bound
+    requires { ⌜ Found (now file) (now tables) (now nodes) × Given (netIn (now file) (now tables) (now nodes)) (now roms) (now codes) (now reads) bound
         × Walked (netIn (now file) (now tables) (now nodes)) (now leads) ⌝ }
     ensures { λ r. ⌜ Progress (netIn (now (file .entry)) (now (tables .entry)) (now (nodes .entry))) (now (leads .entry)) (now (leads .exit)) r
         (Quiet (netIn (now (file .entry)) (now (tables .entry)) (now (nodes .entry))) (length (now (nodes .entry)))) ⌝ }
@@ -165,7 +134,7 @@ fn pass(
     let mut raised: usize = 0;
     let mut x: usize = 0;
     while x < nodes.len() {
-        raised = raised + relax(file, tables, nodes, roms, bound, x, leads);
+        raised = raised + relax(file, tables, nodes, roms, bound, x, leads, codes, reads);
         x = x + 1;
     }
     raised
@@ -193,8 +162,10 @@ fn settle(
     roms: &[u8],
     bound: usize,
     leads: &mut [u16],
+    codes: &[u8],
+    reads: &[u16],
 ) -> bool
-    requires { ⌜ Found (now file) (now tables) (now nodes) × Given (netIn (now file) (now tables) (now nodes)) (now roms) bound
+    requires { ⌜ Found (now file) (now tables) (now nodes) × Given (netIn (now file) (now tables) (now nodes)) (now roms) (now codes) (now reads) bound
         × Walked (netIn (now file) (now tables) (now nodes)) (now leads) ⌝ }
     ensures { λ r. ⌜ Outcome (netIn (now (file .entry)) (now (tables .entry)) (now (nodes .entry))) (now (leads .exit)) r ⌝ }
 {
@@ -202,7 +173,7 @@ fn settle(
         if over_bound(leads, nodes.len(), bound) {
             return false;
         }
-        if pass(file, tables, nodes, roms, bound, leads) == 0 {
+        if pass(file, tables, nodes, roms, bound, leads, codes, reads) == 0 {
             return true;
         }
     }
@@ -211,13 +182,19 @@ fn settle(
 // ---- check 12
 
 // Whether v is an input port with a positive lead.
-fn owes(file: &[u8], tables: &[u16], nodes: &[u16], leads: &[u16], v: usize) -> bool
-    requires { ⌜ Found (now file) (now tables) (now nodes) × (v < length (now nodes)) × LeadsIn (netIn (now file) (now tables) (now nodes)) (now leads) ⌝ }
+fn owes(
+    file: &[u8],
+    tables: &[u16],
+    nodes: &[u16],
+    leads: &[u16],
+    v: usize,
+    codes: &[u8],
+    reads: &[u16],
+) -> bool
+    requires { ⌜ Found (now file) (now tables) (now nodes) × Columns (netIn (now file) (now tables) (now nodes)) (now codes) (now reads) (length (now nodes)) × (v < length (now nodes)) × LeadsIn (netIn (now file) (now tables) (now nodes)) (now leads) ⌝ }
     ensures { λ r. ⌜ r ≡ owingPort (netIn (now (file .entry)) (now (tables .entry)) (now (nodes .entry))) v ⌝ }
 {
-    let x = node(file, tables, nodes, v);
-    let e = x.element;
-    if input_port(e) {
+    if is_kind(code_of(codes, v), 0) == 1 {
         0 < wide(number_at(leads, v))
     } else {
         false
@@ -225,13 +202,20 @@ fn owes(file: &[u8], tables: &[u16], nodes: &[u16], leads: &[u16], v: usize) -> 
 }
 
 // The lowest input port with a positive lead, or the number of nodes.
-fn lowest_owing(file: &[u8], tables: &[u16], nodes: &[u16], leads: &[u16]) -> usize
-    requires { ⌜ Found (now file) (now tables) (now nodes) × LeadsIn (netIn (now file) (now tables) (now nodes)) (now leads) ⌝ }
+fn lowest_owing(
+    file: &[u8],
+    tables: &[u16],
+    nodes: &[u16],
+    leads: &[u16],
+    codes: &[u8],
+    reads: &[u16],
+) -> usize
+    requires { ⌜ Found (now file) (now tables) (now nodes) × Columns (netIn (now file) (now tables) (now nodes)) (now codes) (now reads) (length (now nodes)) × LeadsIn (netIn (now file) (now tables) (now nodes)) (now leads) ⌝ }
     ensures { λ r. ⌜ r ≡ lowest (length (now (nodes .entry))) (owingPort (netIn (now (file .entry)) (now (tables .entry)) (now (nodes .entry)))) ⌝ }
 {
     let mut v: usize = 0;
     while v < nodes.len() {
-        if owes(file, tables, nodes, leads, v) {
+        if owes(file, tables, nodes, leads, v, codes, reads) {
             return v;
         }
         v = v + 1;
@@ -247,17 +231,30 @@ pub fn find_leads(
     nodes: &[u16],
     order: &[u16],
     leads: &mut [u16],
+    codes: &[u8],
+    reads: &[u16],
 ) -> Verdict
-    requires { ⌜ Found (now file) (now tables) (now nodes) × Sourced (netIn (now file) (now tables) (now nodes)) × (1024 ≤ length (now leads)) ⌝ }
+    requires { ⌜ Found (now file) (now tables) (now nodes) × Sourced (netIn (now file) (now tables) (now nodes)) × (1024 ≤ length (now leads))
+        × Columns (netIn (now file) (now tables) (now nodes)) (now codes) (now reads) (length (now nodes)) ⌝ }
     ensures { λ r. ⌜ (r ≡ debtsVerdict (netIn (now (file .entry)) (now (tables .entry)) (now (nodes .entry))))
         × (r ≡ Verdict.Fine → LeadsIn (netIn (now (file .entry)) (now (tables .entry)) (now (nodes .entry))) (now (leads .exit))) ⌝ }
 {
     let mut roms = [0u8; 1024];
-    let bound = mark_roms(file, tables, nodes, &mut roms);
+    let bound = mark_roms(file, tables, nodes, &mut roms, codes, reads);
     zero(leads);
-    spread(file, tables, nodes, &roms, bound, order, leads);
-    if settle(file, tables, nodes, &roms, bound, leads) {
-        let port = lowest_owing(file, tables, nodes, leads);
+    spread(
+        file,
+        tables,
+        nodes,
+        &roms,
+        bound,
+        order,
+        leads,
+        codes,
+        reads,
+    );
+    if settle(file, tables, nodes, &roms, bound, leads, codes, reads) {
+        let port = lowest_owing(file, tables, nodes, leads, codes, reads);
         if port < nodes.len() {
             return Verdict::Refuses(12, port as u16);
         }

@@ -3,9 +3,9 @@ use super::relax;
 use areas::flag_at;
 use areas::number_at;
 use areas::put_flag;
-use index::node;
+use columns::kinds::code_of;
 use index::wide;
-use nodes::source_count;
+use nodes::code_sources;
 ghost use Prim.Native.Nat.{_+_, _*_, _≤_};
 ghost use Rattle.netlist.specs.ScanLaws.{Found};
 ghost use Rattle.netlist.specs.File.{netIn};
@@ -26,19 +26,20 @@ fn push(stack: &mut [u16], waiting: &mut [u8], u: u16, depth: usize) -> usize
 }
 
 fn push_sources(
-    sources: [u16; 3],
+    reads: &[u16],
+    at: usize,
     n: usize,
     stack: &mut [u16],
     waiting: &mut [u8],
     start: usize,
 ) -> usize
-    requires { ⌜ n ≤ 3 ⌝ }
+    requires { ⌜ (n ≤ 3) × (at ≤ 65535) ⌝ }
     ensures { λ r. ⌜ r ≤ start + 3 ⌝ }
 {
     let mut depth = start;
     let mut p: usize = 0;
     while p < n {
-        depth = push(stack, waiting, sources[p], depth);
+        depth = push(stack, waiting, number_at(reads, at + p), depth);
         p = p + 1;
     }
     depth
@@ -56,8 +57,10 @@ fn visit(
     stack: &mut [u16],
     waiting: &mut [u8],
     depth: usize,
+    codes: &[u8],
+    reads: &[u16],
 ) -> usize
-    requires { ⌜ Found (now file) (now tables) (now nodes) × Given (netIn (now file) (now tables) (now nodes)) (now roms) bound
+    requires { ⌜ Found (now file) (now tables) (now nodes) × Given (netIn (now file) (now tables) (now nodes)) (now roms) (now codes) (now reads) bound
         × Walked (netIn (now file) (now tables) (now nodes)) (now leads) ⌝ }
     ensures { λ r. ⌜ Walked (netIn (now (file .entry)) (now (tables .entry)) (now (nodes .entry))) (now (leads .exit))
         × (r + 4 * left (netIn (now (file .entry)) (now (tables .entry)) (now (nodes .entry))) (now (leads .exit))
@@ -70,13 +73,11 @@ fn visit(
         return 0;
     }
     put_flag(waiting, x, 0);
-    if relax(file, tables, nodes, roms, bound, x, leads) == 0 {
+    if relax(file, tables, nodes, roms, bound, x, leads, codes, reads) == 0 {
         return depth;
     }
-    let reader = node(file, tables, nodes, x);
-    let e = reader.element;
-    let sources = reader.sources;
-    push_sources(sources, source_count(e), stack, waiting, depth)
+    let n = code_sources(code_of(codes, x));
+    push_sources(reads, 3 * x, n, stack, waiting, depth)
 }
 
 // The nodes of an order, its last on top, so that readers come before what they read.
@@ -99,8 +100,10 @@ pub fn spread(
     bound: usize,
     order: &[u16],
     leads: &mut [u16],
+    codes: &[u8],
+    reads: &[u16],
 )
-    requires { ⌜ Found (now file) (now tables) (now nodes) × Given (netIn (now file) (now tables) (now nodes)) (now roms) bound
+    requires { ⌜ Found (now file) (now tables) (now nodes) × Given (netIn (now file) (now tables) (now nodes)) (now roms) (now codes) (now reads) bound
         × Walked (netIn (now file) (now tables) (now nodes)) (now leads) ⌝ }
     ensures { λ _. ⌜ Walked (netIn (now (file .entry)) (now (tables .entry)) (now (nodes .entry))) (now (leads .exit)) ⌝ }
 {
@@ -120,6 +123,8 @@ pub fn spread(
             &mut stack,
             &mut waiting,
             depth - 1,
+            codes,
+            reads,
         );
     }
 }

@@ -308,13 +308,5 @@ pub element-of : (N : Net) (u : ℕ) {y : Node} → y ≡ nodeAt N u → y .elem
 unfolding elementAt
 element-of N u e = ap (λ (y : Node). y .element) e
 
-pub bit-true : {b : Bool} → one b ≡ 1 → b ≡ true
-bit-true {b = true} e = refl
-bit-true {b = false} e = absurd (omega arith)
-
-pub bit-false : {b : Bool} → (one b ≡ 1 → ⊥) → b ≡ false
-bit-false {b = true} h = absurd (h refl)
-bit-false {b = false} h = refl
-
 pub firsts-as : (N : Net) {firsts firsts′ : List ℕ} {u : ℕ} → firsts′ ≡ firsts → Firsts N firsts u → Firsts N firsts′ u
 firsts-as N {u = u} e t = subst (λ (l : List ℕ). Firsts N l u) (sym e) t

@@ -8,15 +8,16 @@ use native.Mathlib.Nat.{max-le, le-refl}
 use native.Mathlib.Omega.{arith}
 use lib.ListN.{length, getD, set, replicate, getD-replicate}
 use lib.Seq.{getD-set-same, getD-set-other}
-use lib.Dec.{ltb}
+use lib.Dec.{eqb, ltb}
 use borrow.Author.Tests.{lt-ltb, le-ltb, ltb-true}
 use Rattle.lists.specs.Lists.{one, countBelow}
 use Rattle.lists.specs.BelowLaws.{lt-suc-split, countBelow-le, true-or-false}
 use Rattle.netlist.specs.declared.Element.{Element}
 use Rattle.netlist.specs.declared.Element.the-variants.{Input, Output, Register, Async, Clocked, Gate}
-use Rattle.netlist.specs.declared.Node.{Node}
-use Rattle.netlist.specs.Net.{Net, size, nodeAt, elementAt, source, operands, isAsync, isMemory, isClocked, Sourced}
+use Rattle.netlist.specs.Net.{Net, size, elementAt, source, operands, isAsync, isMemory, isClocked, Sourced}
 use Rattle.netlist.specs.NodeLaws.{few-operands}
+use Rattle.nodes.specs.Code.{codeOf, sourcesByCode, code-sources}
+use Rattle.columns.specs.Kinds.{code-memory, bit-true, bit-false}
 use Rattle.retiming.specs.Leads.{lead}
 use Rattle.retiming.specs.AtMostRoms.{romCount, lead-at-most-roms}
 use Rattle.retiming.specs.Rewrite.{root, passed, ownHere, memoryAt}
@@ -54,18 +55,18 @@ module _ {N : Net} {leads roots passes : List ℕ} (t : Ready N leads roots pass
     passed-small = omega (arith, t .traced s h .through, passed-few N s, t .formed .fields .bounds .nodes)
 
     -- the registers on a wire, from what the work areas hold
-    module _ {x : ℕ} (k : x < size N) {y : Node} (is : y ≡ nodeAt N u) where
-      pub counted : ((getD passes s 0 + one (isClocked (y .element)) + getD leads u 0) - getD leads x 0) - one (isMemory (y .element)) ≡ countFrom N x s
-      unfolding countFrom ownHere memoryAt elementAt
+    module _ {x : ℕ} (k : x < size N) where
+      pub counted : ((getD passes s 0 + one (isClocked (elementAt N u)) + getD leads u 0) - getD leads x 0) - one (isMemory (elementAt N u)) ≡ countFrom N x s
+      unfolding countFrom ownHere memoryAt
       counted =
           let p = t .traced s h .through in
           let l = t .leads-in u root-inside ∙ ap (lead N) is-root in
-          let o : one (isClocked (y .element)) ≡ one (isClocked (nodeAt N (root N s) .element)) = ap (λ (z : Node). one (isClocked (z .element))) is ∙ ap (λ (v : ℕ). one (isClocked (nodeAt N v .element))) is-root in
-          let m : one (isMemory (y .element)) ≡ one (isMemory (nodeAt N (root N s) .element)) = ap (λ (z : Node). one (isMemory (z .element))) is ∙ ap (λ (v : ℕ). one (isMemory (nodeAt N v .element))) is-root in
+          let o : one (isClocked (elementAt N u)) ≡ one (isClocked (elementAt N (root N s))) = ap (λ (v : ℕ). one (isClocked (elementAt N v))) is-root in
+          let m : one (isMemory (elementAt N u)) ≡ one (isMemory (elementAt N (root N s))) = ap (λ (v : ℕ). one (isMemory (elementAt N v))) is-root in
           omega (arith, t .leads-in x k)
 
-      pub count-few : ((getD passes s 0 + one (isClocked (y .element)) + getD leads u 0) - getD leads x 0) - one (isMemory (y .element)) ≤ 2049
-      count-few = omega (arith, passed-small, lead-few u root-inside, one-few (isClocked (y .element)))
+      pub count-few : ((getD passes s 0 + one (isClocked (elementAt N u)) + getD leads u 0) - getD leads x 0) - one (isMemory (elementAt N u)) ≤ 2049
+      count-few = omega (arith, passed-small, lead-few u root-inside, one-few (isClocked (elementAt N u)))
 
 -- ---- one wire more
 
@@ -79,14 +80,11 @@ module _ {N : Net} {ends froms clocks : List ℕ} {limit k : ℕ} (w : WiredTo N
     ahead = λ j l m. w .ahead j (omega arith) m;
   }
 
-  module _ (a : length ends ≡ 3072) (b : length froms ≡ 3072) (d : length clocks ≡ 3072) (h : k < 3072) {end from clock at : ℕ} (g : wireAt N k ≡ true)
-      (e : end ≡ root N (sourceOf N k)) (f : from ≡ sourceOf N k) (c : clock ≡ lastClock N k) (small : clock < 65535)
+  module _ (a : length ends ≡ 3072) (d : length clocks ≡ 3072) (h : k < 3072) {end clock at : ℕ} (g : wireAt N k ≡ true)
+      (e : end ≡ root N (sourceOf N k)) (f : getD froms k 0 ≡ sourceOf N k) (c : clock ≡ lastClock N k) (small : clock < 65535)
       (r : at ≡ cond (memoryAt N (root N (sourceOf N k))) clock 65535) where
     abbrev ends′ : List ℕ
     ends′ = set ends k end
-
-    abbrev froms′ : List ℕ
-    froms′ = set froms k from
 
     abbrev clocks′ : List ℕ
     clocks′ = set clocks k at
@@ -94,42 +92,42 @@ module _ {N : Net} {ends froms clocks : List ℕ} {limit k : ℕ} (w : WiredTo N
     abbrev limit′ : ℕ
     limit′ = max limit (clock + 1)
 
-    here : Wired N ends′ froms′ clocks′ limit′ k
+    here : Wired N ends′ froms clocks′ limit′ k
     here = record {
       end = getD-set-same ends k end 0 (omega arith) ∙ e;
-      from = getD-set-same froms k from 0 (omega arith) ∙ f;
+      from = f;
       early = omega (arith, c);
       rom = λ m. getD-set-same clocks k at 0 (omega arith) ∙ r ∙ ap (λ (z : Bool). cond z clock 65535) m ∙ c;
       other = λ m. getD-set-same clocks k at 0 (omega arith) ∙ r ∙ ap (λ (z : Bool). cond z clock 65535) m;
     }
 
-    still : (j : ℕ) → j < k → Wired N ends froms clocks limit j → Wired N ends′ froms′ clocks′ limit′ j
+    still : (j : ℕ) → j < k → Wired N ends froms clocks limit j → Wired N ends′ froms clocks′ limit′ j
     still j l y = record {
       end = getD-set-other ends k j end 0 (λ q. omega arith) ∙ y .end;
-      from = getD-set-other froms k j from 0 (λ q. omega arith) ∙ y .from;
+      from = y .from;
       early = omega (arith, y .early);
       rom = λ m. getD-set-other clocks k j at 0 (λ q. omega arith) ∙ y .rom m;
       other = λ m. getD-set-other clocks k j at 0 (λ q. omega arith) ∙ y .other m;
     }
 
-    none : (j : ℕ) → (j ≡ k → ⊥) → Unwired N ends froms clocks limit j → Unwired N ends′ froms′ clocks′ limit′ j
+    none : (j : ℕ) → (j ≡ k → ⊥) → Unwired N ends froms clocks limit j → Unwired N ends′ froms clocks′ limit′ j
     none j l y = record {
       end = getD-set-other ends k j end 0 l ∙ y .end;
       never = getD-set-other clocks k j at 0 l ∙ y .never;
     }
 
-    pub wired-more : WiredTo N ends′ froms′ clocks′ limit′ (k + 1)
+    pub wired-more : WiredTo N ends′ froms clocks′ limit′ (k + 1)
     wired-more = record {
       few = max-le (w .few) (omega arith);
-      wires = λ j l q. ⊎-elim (λ y. still j y (w .wires j y q)) (λ y. subst (Wired N ends′ froms′ clocks′ limit′) (sym y) here) (lt-suc-split (let z : j < suc k = omega arith in z));
+      wires = λ j l q. ⊎-elim (λ y. still j y (w .wires j y q)) (λ y. subst (Wired N ends′ froms clocks′ limit′) (sym y) here) (lt-suc-split (let z : j < suc k = omega arith in z));
       gaps = λ j l q. ⊎-elim (λ y. none j (λ z. omega arith) (w .gaps j y q)) (λ y. absurd (true≢false (sym g ∙ ap (wireAt N) (sym y) ∙ q))) (lt-suc-split (let z : j < suc k = omega arith in z));
       ahead = λ j l m. none j (λ z. omega arith) (w .ahead j (omega arith) m);
     }
 
 -- the same of equal work areas
-pub wired-as : {N : Net} {e e′ f f′ c c′ : List ℕ} {l l′ k : ℕ} → e′ ≡ e → f′ ≡ f → c′ ≡ c → l′ ≡ l → WiredTo N e f c l k → WiredTo N e′ f′ c′ l′ k
-wired-as {N} {e} {e′} {f} {f′} {c} {c′} {l} {l′} {k} p q r s w =
-    subst (λ (y : List ℕ). WiredTo N y f′ c′ l′ k) (sym p) (subst (λ (y : List ℕ). WiredTo N e y c′ l′ k) (sym q) (subst (λ (y : List ℕ). WiredTo N e f y l′ k) (sym r) (subst (λ (y : ℕ). WiredTo N e f c y k) (sym s) w)))
+pub wired-as : {N : Net} {e e′ f c c′ : List ℕ} {l l′ k : ℕ} → e′ ≡ e → c′ ≡ c → l′ ≡ l → WiredTo N e f c l k → WiredTo N e′ f c′ l′ k
+wired-as {N} {e} {e′} {f} {c} {c′} {l} {l′} {k} p r s w =
+    subst (λ (y : List ℕ). WiredTo N y f c′ l′ k) (sym p) (subst (λ (y : List ℕ). WiredTo N e f y l′ k) (sym r) (subst (λ (y : ℕ). WiredTo N e f c y k) (sym s) w))
 
 -- at first there is none
 pub wired-none : (N : Net) (froms : List ℕ) → WiredTo N (replicate 3072 65535) froms (replicate 3072 65535) 0 0
@@ -142,22 +140,47 @@ wired-none N froms = record {
 
 -- ---- wire k as the code reads it
 
-module _ (N : Net) (k : ℕ) {y : Node} (is : y ≡ nodeAt N (k / 3)) where
-  wires-at : wiresTo (y .element) ≡ wiresTo (elementAt N (k / 3))
-  unfolding elementAt
-  wires-at = ap (λ (z : Node). wiresTo (z .element)) is
+code-wires : (e : Element) → codeOf e ≡ 2 → 0 ≡ wiresTo e
+code-wires Input q = refl
+code-wires Output q = absurd (omega arith)
+code-wires (Register r) q = refl
+code-wires (Async m) q = absurd (omega arith)
+code-wires (Clocked m r) q = absurd (omega arith)
+code-wires (Gate o) q = absurd (omega arith)
 
-  pub wire-there : k % 3 < wiresTo (y .element) → wireAt N k ≡ true
+other-wires : (e : Element) → (codeOf e ≡ 2 → ⊥) → operands e ≡ wiresTo e
+other-wires Input q = refl
+other-wires Output q = refl
+other-wires (Register r) q = absurd (q refl)
+other-wires (Async m) q = refl
+other-wires (Clocked m r) q = refl
+other-wires (Gate o) q = refl
+
+pub register-wires : {code : ℕ} → code ≡ 2 → (e : Element) → code ≡ codeOf e → 0 ≡ wiresTo e
+register-wires q e c = code-wires e (sym c ∙ q)
+
+pub count-wires : {code n : ℕ} → (code ≡ 2 → ⊥) → n ≡ getD sourcesByCode code 0 → (e : Element) → code ≡ codeOf e → n ≡ wiresTo e
+count-wires q n e c = n ∙ ap (λ (k : ℕ). getD sourcesByCode k 0) c ∙ code-sources e ∙ other-wires e (λ y. q (c ∙ y))
+
+-- the clock of a ROM
+pub rom-some : (clock : ℕ) {code b : ℕ} → b ≡ one (eqb code 3) + one (eqb code 4) → b ≡ 1 → (e : Element) → code ≡ codeOf e → clock ≡ cond (isMemory e) clock 65535
+rom-some clock q r e c =
+    let m : isMemory e ≡ true = bit-true (sym (code-memory e) ∙ ap (λ (k : ℕ). one (eqb k 3) + one (eqb k 4)) (sym c) ∙ sym q ∙ r) in
+    sym (ap (λ (z : Bool). cond z clock 65535) m)
+
+pub rom-none : (clock : ℕ) {code b : ℕ} → b ≡ one (eqb code 3) + one (eqb code 4) → (b ≡ 1 → ⊥) → (e : Element) → code ≡ codeOf e → 65535 ≡ cond (isMemory e) clock 65535
+rom-none clock q r e c =
+    let m : isMemory e ≡ false = bit-false (λ y. r (q ∙ ap (λ (k : ℕ). one (eqb k 3) + one (eqb k 4)) c ∙ code-memory e ∙ y)) in
+    sym (ap (λ (z : Bool). cond z clock 65535) m)
+
+module _ (N : Net) (k : ℕ) where
+  pub wire-there : k % 3 < wiresTo (elementAt N (k / 3)) → wireAt N k ≡ true
   unfolding wireAt
-  wire-there h = lt-ltb (k % 3) (wiresTo (elementAt N (k / 3))) (omega (arith, wires-at))
+  wire-there h = lt-ltb (k % 3) (wiresTo (elementAt N (k / 3))) h
 
-  pub wire-missing : wiresTo (y .element) ≤ k % 3 → wireAt N k ≡ false
+  pub wire-missing : wiresTo (elementAt N (k / 3)) ≤ k % 3 → wireAt N k ≡ false
   unfolding wireAt
-  wire-missing h = le-ltb (k % 3) (wiresTo (elementAt N (k / 3))) (omega (arith, wires-at))
-
-  pub wire-source : getD (y .sources) (k % 3) 0 ≡ sourceOf N k
-  unfolding source
-  wire-source = ap (λ (z : Node). getD (z .sources) (k % 3) 0) is
+  wire-missing h = le-ltb (k % 3) (wiresTo (elementAt N (k / 3))) h
 
 -- a wire ends at an operand
 pub wire-operand : (N : Net) (k : ℕ) → wireAt N k ≡ true → k % 3 < operands (elementAt N (k / 3))
@@ -170,9 +193,9 @@ unfolding Sourced
 wire-inside N sourced k h e = sourced (k / 3) (k % 3) (omega arith) (wire-operand N k e)
 
 -- the root of a wire as the code reads it
-pub rom-at : (N : Net) (u v : ℕ) {y : Node} (clock : ℕ) → y ≡ nodeAt N u → u ≡ v → cond (isMemory (y .element)) clock 65535 ≡ cond (memoryAt N v) clock 65535
-unfolding memoryAt elementAt
-rom-at N u v clock is e = ap (λ (z : Node). cond (isMemory (z .element)) clock 65535) is ∙ ap (λ (x : ℕ). cond (isMemory (nodeAt N x .element)) clock 65535) e
+pub rom-at : (N : Net) (u v : ℕ) (clock : ℕ) → u ≡ v → cond (isMemory (elementAt N u)) clock 65535 ≡ cond (memoryAt N v) clock 65535
+unfolding memoryAt
+rom-at N u v clock e = ap (λ (x : ℕ). cond (isMemory (elementAt N x)) clock 65535) e
 
 pub last-is : (N : Net) (k : ℕ) {clock count l s : ℕ} → clock ≡ count + l → count ≡ countFrom N (k / 3) s → l ≡ lead N (k / 3) → s ≡ sourceOf N k → clock ≡ lastClock N k
 unfolding lastClock

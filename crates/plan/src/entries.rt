@@ -4,16 +4,16 @@ use super::wiring::memory_bit;
 use areas::flag_at;
 use areas::number_at;
 use areas::put_number;
-use index::node;
-use netlist::Element;
+use columns::kinds::code_of;
+use columns::kinds::is_kind;
 ghost use mathlib.Core.Path.{_≡_};
 ghost use mathlib.Core.Bool.{true};
 ghost use Prim.Native.Nat.{_+_, _*_, _<_, _≤_};
 ghost use lib.ListN.{length, set};
-ghost use Rattle.lists.specs.Lists.{one};
-ghost use Rattle.netlist.specs.Net.{isRegister, isMemory, elementAt};
+ghost use Rattle.netlist.specs.Net.{isMemory, elementAt};
 ghost use Rattle.netlist.specs.ScanLaws.{Found};
 ghost use Rattle.netlist.specs.File.{netIn};
+ghost use Rattle.columns.specs.Columns.{Columns};
 ghost use Rattle.plan.specs.Entries.{Finds, Placing, Adds, Wants, AddsAll, entriesBefore, AllPlaced};
 ghost use Rattle.plan.specs.Copies.{Summed};
 
@@ -80,20 +80,6 @@ fn add_copies(
     count
 }
 
-// 1 for a register.
-fn register_bit(e: Element) -> usize
-    ensures { λ r. ⌜ r ≡ one (isRegister e) ⌝ }
-{
-    match e {
-        Element::Input => 0,
-        Element::Output => 0,
-        Element::Register(_) => 1,
-        Element::Async(_) => 0,
-        Element::Clocked(_, _) => 0,
-        Element::Gate(_) => 0,
-    }
-}
-
 // Adds the entry of node u with a word.
 fn add_entry(u: usize, word: u16, count: usize, owners: &mut [u16], words: &mut [u16]) -> usize
     requires { ⌜ (u < 1024) × (count ≤ 65535) ⌝ }
@@ -155,15 +141,17 @@ fn place(
     count: usize,
     owners: &mut [u16],
     words: &mut [u16],
+    codes: &[u8],
+    reads: &[u16],
 ) -> usize
-    requires { ⌜ Found (now file) (now tables) (now nodes) × (u < length (now nodes)) × (count ≤ 1024) × (1024 ≤ length (now owners)) × (1024 ≤ length (now words))
+    requires { ⌜ Found (now file) (now tables) (now nodes) × (u < length (now nodes)) × Columns (netIn (now file) (now tables) (now nodes)) (now codes) (now reads) (length (now nodes))
+        × (count ≤ 1024) × (1024 ≤ length (now owners)) × (1024 ≤ length (now words))
         × Wants (netIn (now file) (now tables) (now nodes)) (now ends) (now copied) × Summed (now ends) (now copied) (now counts) (now single) (3 * length (now nodes))
         × Placing (now owners) (now words) (entriesBefore (netIn (now file) (now tables) (now nodes)) u) count ⌝ }
     ensures { λ r. ⌜ Placing (now (owners .exit)) (now (words .exit)) (entriesBefore (netIn (now (file .entry)) (now (tables .entry)) (now (nodes .entry))) (u + 1)) r × (r ≤ 4096) ⌝ }
 {
-    let x = node(file, tables, nodes, u);
-    let e = x.element;
-    if memory_bit(e) == 1 {
+    let code = code_of(codes, u);
+    if memory_bit(code) == 1 {
         return place_rom(
             file,
             tables,
@@ -178,7 +166,7 @@ fn place(
             words,
         );
     }
-    if register_bit(e) == 1 {
+    if is_kind(code, 2) == 1 {
         return count;
     }
     add_entry(u, 0, count, owners, words)
@@ -194,8 +182,11 @@ pub fn place_entries(
     firsts: &mut [u16],
     owners: &mut [u16],
     words: &mut [u16],
+    codes: &[u8],
+    reads: &[u16],
 ) -> usize
-    requires { ⌜ Found (now file) (now tables) (now nodes) × (length (now firsts) ≡ 1024) × (1024 ≤ length (now owners)) × (1024 ≤ length (now words))
+    requires { ⌜ Found (now file) (now tables) (now nodes) × Columns (netIn (now file) (now tables) (now nodes)) (now codes) (now reads) (length (now nodes))
+        × (length (now firsts) ≡ 1024) × (1024 ≤ length (now owners)) × (1024 ≤ length (now words))
         × Wants (netIn (now file) (now tables) (now nodes)) (now ends) (now copied) ⌝ }
     ensures { λ r. ⌜ AllPlaced (netIn (now (file .entry)) (now (tables .entry)) (now (nodes .entry))) (now (owners .exit)) (now (words .exit)) (now (firsts .exit)) r ⌝ }
 {
@@ -222,6 +213,8 @@ pub fn place_entries(
             count,
             owners,
             words,
+            codes,
+            reads,
         );
         u = u + 1;
     }

@@ -14,6 +14,7 @@ ghost use Rattle.netlist.specs.Net.{inClock};
 ghost use Rattle.netlist.specs.ScanLaws.{Found};
 ghost use Rattle.netlist.specs.File.{netIn};
 ghost use Rattle.order.specs.Order.{Complete};
+ghost use Rattle.columns.specs.Columns.{Columns};
 ghost use Rattle.plan.specs.Wiring.{Ready};
 ghost use Rattle.plan.specs.Plan.{PlanMade};
 
@@ -36,14 +37,16 @@ pub fn make_plan(
     owners: &mut [u16],
     words: &mut [u16],
     sources: &mut [u16],
+    codes: &[u8],
+    reads: &[u16],
 ) -> Plan
     requires { ⌜ Found (now file) (now tables) (now nodes) × Ready (netIn (now file) (now tables) (now nodes)) (now leads) (now roots) (now passes)
+        × Columns (netIn (now file) (now tables) (now nodes)) (now codes) (now reads) (length (now nodes))
         × Complete inClock (netIn (now file) (now tables) (now nodes)) (now order)
         × (length (now owners) ≡ 1024) × (length (now words) ≡ 1024) × (length (now sources) ≡ 3072) ⌝ }
     ensures { λ r. ⌜ PlanMade (netIn (now (file .entry)) (now (tables .entry)) (now (nodes .entry))) (now (owners .exit)) (now (words .exit)) (now (sources .exit)) (r .entries) (r .total) ⌝ }
 {
     let mut ends = [65535u16; 3072];
-    let mut froms = [0u16; 3072];
     let mut clocks = [65535u16; 3072];
     let mut copied = [0u16; 3072];
     let mut firsts = [0u16; 1024];
@@ -55,8 +58,9 @@ pub fn make_plan(
         roots,
         passes,
         &mut ends,
-        &mut froms,
         &mut clocks,
+        codes,
+        reads,
     );
     first_words(
         file,
@@ -65,7 +69,7 @@ pub fn make_plan(
         order,
         limit,
         &clocks,
-        &froms,
+        reads,
         &mut copied,
     );
     let entries = place_entries(
@@ -77,6 +81,8 @@ pub fn make_plan(
         &mut firsts,
         owners,
         words,
+        codes,
+        reads,
     );
     if 1024 < entries {
         return Plan {
@@ -93,7 +99,6 @@ pub fn make_plan(
         roots,
         passes,
         &ends,
-        &froms,
         &copied,
         &firsts,
         entries,
@@ -101,6 +106,8 @@ pub fn make_plan(
         words,
         &mut late,
         sources,
+        codes,
+        reads,
     );
     if 1024 < total {
         return Plan { entries, total };

@@ -9,6 +9,7 @@ ghost use Prim.Native.Nat.{_+_, _*_, _<_, _≤_};
 ghost use lib.ListN.{length, getD};
 ghost use Rattle.netlist.specs.ScanLaws.{Found};
 ghost use Rattle.netlist.specs.File.{netIn};
+ghost use Rattle.columns.specs.Columns.{Columns};
 ghost use Rattle.plan.specs.Registers.{behind, Puts, entryCount, Planning, Laid, AllLaid};
 
 // Puts the registers of a wire, from its source on.
@@ -58,7 +59,6 @@ fn lay_wire(
     roots: &[u16],
     passes: &[u16],
     ends: &[u16],
-    froms: &[u16],
     copied: &[u16],
     firsts: &[u16],
     entries: usize,
@@ -68,9 +68,12 @@ fn lay_wire(
     words: &[u16],
     late: &mut [u16],
     sources: &mut [u16],
+    codes: &[u8],
+    reads: &[u16],
 ) -> usize
     requires { ⌜ Found (now file) (now tables) (now nodes)
-        × Planning (netIn (now file) (now tables) (now nodes)) (now leads) (now roots) (now passes) (now ends) (now froms) (now copied) (now firsts)
+        × Planning (netIn (now file) (now tables) (now nodes)) (now leads) (now roots) (now passes) (now ends) (now reads) (now copied) (now firsts)
+        × Columns (netIn (now file) (now tables) (now nodes)) (now codes) (now reads) (length (now nodes))
         × (entries ≡ entryCount (netIn (now file) (now tables) (now nodes))) × (m < 3 * entries) × (total ≤ 1024)
         × (length (now owners) ≡ 1024) × (length (now late) ≡ 1024) × (length (now sources) ≡ 3072)
         × Laid (netIn (now file) (now tables) (now nodes)) (now owners) (now words) (now late) (now sources) m total ⌝ }
@@ -83,11 +86,22 @@ fn lay_wire(
     if end == 65535 {
         return total;
     }
-    let s = number_at(froms, k);
+    let s = number_at(reads, k);
     let c = number_at(copied, k);
     let first = wide(number_at(firsts, wide(end)));
     let from = find_from(words, c, first, entries) as u16;
-    let count = count_on(file, tables, nodes, leads, roots, passes, x, wide(s));
+    let count = count_on(
+        file,
+        tables,
+        nodes,
+        leads,
+        roots,
+        passes,
+        x,
+        wide(s),
+        codes,
+        reads,
+    );
     let lead = wide(number_at(leads, x));
     put_registers(s, from, lead, count, total, owners, late, sources);
     put_number(sources, m, last_of(from, total, count));
@@ -103,7 +117,6 @@ pub fn lay_wires(
     roots: &[u16],
     passes: &[u16],
     ends: &[u16],
-    froms: &[u16],
     copied: &[u16],
     firsts: &[u16],
     entries: usize,
@@ -111,9 +124,12 @@ pub fn lay_wires(
     words: &[u16],
     late: &mut [u16],
     sources: &mut [u16],
+    codes: &[u8],
+    reads: &[u16],
 ) -> usize
     requires { ⌜ Found (now file) (now tables) (now nodes)
-        × Planning (netIn (now file) (now tables) (now nodes)) (now leads) (now roots) (now passes) (now ends) (now froms) (now copied) (now firsts)
+        × Planning (netIn (now file) (now tables) (now nodes)) (now leads) (now roots) (now passes) (now ends) (now reads) (now copied) (now firsts)
+        × Columns (netIn (now file) (now tables) (now nodes)) (now codes) (now reads) (length (now nodes))
         × (entries ≡ entryCount (netIn (now file) (now tables) (now nodes)))
         × (length (now owners) ≡ 1024) × (length (now late) ≡ 1024) × (length (now sources) ≡ 3072)
         × Laid (netIn (now file) (now tables) (now nodes)) (now owners) (now words) (now late) (now sources) 0 entries ⌝ }
@@ -133,7 +149,6 @@ pub fn lay_wires(
             roots,
             passes,
             ends,
-            froms,
             copied,
             firsts,
             entries,
@@ -143,6 +158,8 @@ pub fn lay_wires(
             words,
             late,
             sources,
+            codes,
+            reads,
         );
         m = m + 1;
     }

@@ -1,16 +1,20 @@
 // The wires of the netlist in a row, three to a node, each with its root, its source, and the clock of the reset word that a ROM at its root takes from it.
 use areas::number_at;
 use areas::put_number;
-use index::node;
+use columns::kinds::code_of;
+use columns::kinds::is_kind;
 use index::wide;
-use netlist::Element;
-use nodes::source_count;
+use nodes::code_sources;
 ghost use mathlib.Core.Path.{_≡_};
 ghost use mathlib.Core.Bool.{cond};
 ghost use Prim.Native.Nat.{_+_, _-_, _*_, _<_, _≤_, max};
 ghost use lib.ListN.{length};
 ghost use Rattle.lists.specs.Lists.{one};
-ghost use Rattle.netlist.specs.Net.{isMemory, isClocked};
+ghost use lib.Dec.{eqb};
+ghost use Rattle.netlist.specs.declared.Element.{Element};
+ghost use Rattle.netlist.specs.Net.{isMemory};
+ghost use Rattle.nodes.specs.Code.{codeOf};
+ghost use Rattle.columns.specs.Columns.{Columns};
 ghost use Rattle.netlist.specs.ScanLaws.{Found};
 ghost use Rattle.netlist.specs.File.{netIn};
 ghost use Rattle.plan.specs.Wiring.{Ready, countFrom, wiresTo, WiredTo};
@@ -28,32 +32,11 @@ fn larger(a: usize, b: usize) -> usize
     if a < b { b } else { a }
 }
 
-// 1 for a ROM.
-pub fn memory_bit(e: Element) -> usize
-    ensures { λ r. ⌜ (r ≡ one (isMemory e)) × (r ≤ 1) ⌝ }
+// 1 for the code of a ROM.
+pub fn memory_bit(code: usize) -> usize
+    ensures { λ r. ⌜ (r ≡ one (eqb code 3) + one (eqb code 4)) × (r ≤ 2) ⌝ }
 {
-    match e {
-        Element::Input => 0,
-        Element::Output => 0,
-        Element::Register(_) => 0,
-        Element::Async(_) => 1,
-        Element::Clocked(_, _) => 1,
-        Element::Gate(_) => 0,
-    }
-}
-
-// 1 for a clocked ROM: its own register.
-fn own_bit(e: Element) -> usize
-    ensures { λ r. ⌜ (r ≡ one (isClocked e)) × (r ≤ 1) ⌝ }
-{
-    match e {
-        Element::Input => 0,
-        Element::Output => 0,
-        Element::Register(_) => 0,
-        Element::Async(_) => 0,
-        Element::Clocked(_, _) => 1,
-        Element::Gate(_) => 0,
-    }
+    is_kind(code, 3) + is_kind(code, 4)
 }
 
 // How many registers stand as nodes of their own on the wire from s to x, in the rewritten netlist.
@@ -66,44 +49,33 @@ pub fn count_on(
     passes: &[u16],
     x: usize,
     s: usize,
+    codes: &[u8],
+    reads: &[u16],
 ) -> usize
     requires { ⌜ Found (now file) (now tables) (now nodes) × Ready (netIn (now file) (now tables) (now nodes)) (now leads) (now roots) (now passes)
+        × Columns (netIn (now file) (now tables) (now nodes)) (now codes) (now reads) (length (now nodes))
         × (x < length (now nodes)) × (s < length (now nodes)) ⌝ }
     ensures { λ r. ⌜ (r ≡ countFrom (netIn (now (file .entry)) (now (tables .entry)) (now (nodes .entry))) x s) × (r ≤ 2049) ⌝ }
 {
     let u = wide(number_at(roots, s));
-    let origin = node(file, tables, nodes, u);
-    let e = origin.element;
-    let before = wide(number_at(passes, s)) + own_bit(e) + wide(number_at(leads, u));
-    minus(minus(before, wide(number_at(leads, x))), memory_bit(e))
+    let code = code_of(codes, u);
+    let before = wide(number_at(passes, s)) + is_kind(code, 4) + wide(number_at(leads, u));
+    minus(minus(before, wide(number_at(leads, x))), memory_bit(code))
 }
 
 // How many wires end at a node: none at a register.
-fn wires_to(e: Element) -> usize
-    ensures { λ r. ⌜ (r ≡ wiresTo e) × (r ≤ 3) ⌝ }
+fn wires_to(code: usize) -> usize
+    requires { ⌜ code < 17 ⌝ }
+    ensures { λ r. ⌜ ((e : Element) → code ≡ codeOf e → r ≡ wiresTo e) × (r ≤ 3) ⌝ }
 {
-    match e {
-        Element::Input => 0,
-        Element::Output => 1,
-        Element::Register(_) => 0,
-        Element::Async(_) => 1,
-        Element::Clocked(_, _) => 1,
-        Element::Gate(_) => source_count(e),
-    }
+    if code == 2 { 0 } else { code_sources(code) }
 }
 
-// A clock where the element is a ROM, and never where it is not.
-fn rom_clock(e: Element, clock: u16) -> u16
-    ensures { λ r. ⌜ r ≡ cond (isMemory e) clock 65535 ⌝ }
+// A clock where a code is that of a ROM, and never where it is not.
+fn rom_clock(code: usize, clock: u16) -> u16
+    ensures { λ r. ⌜ ((e : Element) → code ≡ codeOf e → r ≡ cond (isMemory e) clock 65535) ⌝ }
 {
-    match e {
-        Element::Input => 65535,
-        Element::Output => 65535,
-        Element::Register(_) => 65535,
-        Element::Async(_) => clock,
-        Element::Clocked(_, _) => clock,
-        Element::Gate(_) => 65535,
-    }
+    if memory_bit(code) == 1 { clock } else { 65535 }
 }
 
 // Enters wire k, where there is one; gives a bound of all clocks at which a word will be wanted.
@@ -116,30 +88,37 @@ fn enter_wire(
     passes: &[u16],
     k: usize,
     ends: &mut [u16],
-    froms: &mut [u16],
     clocks: &mut [u16],
     limit: usize,
+    codes: &[u8],
+    reads: &[u16],
 ) -> usize
     requires { ⌜ Found (now file) (now tables) (now nodes) × Ready (netIn (now file) (now tables) (now nodes)) (now leads) (now roots) (now passes)
-        × (k < 3 * length (now nodes)) × (length (now ends) ≡ 3072) × (length (now froms) ≡ 3072) × (length (now clocks) ≡ 3072)
-        × WiredTo (netIn (now file) (now tables) (now nodes)) (now ends) (now froms) (now clocks) limit k ⌝ }
-    ensures { λ r. ⌜ WiredTo (netIn (now (file .entry)) (now (tables .entry)) (now (nodes .entry))) (now (ends .exit)) (now (froms .exit)) (now (clocks .exit)) r (k + 1) ⌝ }
+        × Columns (netIn (now file) (now tables) (now nodes)) (now codes) (now reads) (length (now nodes))
+        × (k < 3 * length (now nodes)) × (length (now ends) ≡ 3072) × (length (now clocks) ≡ 3072)
+        × WiredTo (netIn (now file) (now tables) (now nodes)) (now ends) (now reads) (now clocks) limit k ⌝ }
+    ensures { λ r. ⌜ WiredTo (netIn (now (file .entry)) (now (tables .entry)) (now (nodes .entry))) (now (ends .exit)) (now (reads .entry)) (now (clocks .exit)) r (k + 1) ⌝ }
 {
     let x = k / 3;
     let p = k % 3;
-    let reader = node(file, tables, nodes, x);
-    let e = reader.element;
-    if p < wires_to(e) {
-        let sources = reader.sources;
-        let from = sources[p];
-        let s = wide(from);
+    if p < wires_to(code_of(codes, x)) {
+        let s = wide(number_at(reads, k));
         let end = number_at(roots, s);
-        let clock = count_on(file, tables, nodes, leads, roots, passes, x, s)
+        let clock = count_on(
+            file,
+            tables,
+            nodes,
+            leads,
+            roots,
+            passes,
+            x,
+            s,
+            codes,
+            reads,
+        )
             + wide(number_at(leads, x));
+        let root = code_of(codes, wide(end));
         put_number(ends, k, end);
-        put_number(froms, k, from);
-        let origin = node(file, tables, nodes, wide(end));
-        let root = origin.element;
         put_number(clocks, k, rom_clock(root, clock as u16));
         larger(limit, clock + 1)
     } else {
@@ -156,13 +135,15 @@ pub fn enter_wires(
     roots: &[u16],
     passes: &[u16],
     ends: &mut [u16],
-    froms: &mut [u16],
     clocks: &mut [u16],
+    codes: &[u8],
+    reads: &[u16],
 ) -> usize
     requires { ⌜ Found (now file) (now tables) (now nodes) × Ready (netIn (now file) (now tables) (now nodes)) (now leads) (now roots) (now passes)
-        × (length (now ends) ≡ 3072) × (length (now froms) ≡ 3072) × (length (now clocks) ≡ 3072)
-        × WiredTo (netIn (now file) (now tables) (now nodes)) (now ends) (now froms) (now clocks) 0 0 ⌝ }
-    ensures { λ r. ⌜ WiredTo (netIn (now (file .entry)) (now (tables .entry)) (now (nodes .entry))) (now (ends .exit)) (now (froms .exit)) (now (clocks .exit)) r (3 * length (now (nodes .entry))) ⌝ }
+        × Columns (netIn (now file) (now tables) (now nodes)) (now codes) (now reads) (length (now nodes))
+        × (length (now ends) ≡ 3072) × (length (now clocks) ≡ 3072)
+        × WiredTo (netIn (now file) (now tables) (now nodes)) (now ends) (now reads) (now clocks) 0 0 ⌝ }
+    ensures { λ r. ⌜ WiredTo (netIn (now (file .entry)) (now (tables .entry)) (now (nodes .entry))) (now (ends .exit)) (now (reads .entry)) (now (clocks .exit)) r (3 * length (now (nodes .entry))) ⌝ }
 {
     let n = nodes.len();
     let mut limit: usize = 0;
@@ -177,9 +158,10 @@ pub fn enter_wires(
             passes,
             k,
             ends,
-            froms,
             clocks,
             limit,
+            codes,
+            reads,
         );
         k = k + 1;
     }

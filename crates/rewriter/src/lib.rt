@@ -1,7 +1,7 @@
 // The rewriter: checks 1 to 14, and the netlist whose ROMs are all clocked. Nothing is written before every check is passed.
 mod layout;
 
-use checks::open_file;
+use checks::open_columns;
 use layout::nodes_length;
 use layout::put_nodes;
 use layout::put_tables;
@@ -21,6 +21,7 @@ ghost use Rattle.netlist.specs.Net.{inClock};
 ghost use Rattle.netlist.specs.Checks.{WellFormed};
 ghost use Rattle.netlist.specs.ScanLaws.{Found};
 ghost use Rattle.netlist.specs.File.{netIn, encode};
+ghost use Rattle.columns.specs.Columns.{Columns};
 ghost use Rattle.order.specs.Order.{Complete};
 ghost use Rattle.retiming.specs.Leads.{closedDebt};
 ghost use Rattle.retiming.specs.Rewrite.{rewritten};
@@ -79,16 +80,27 @@ fn rewrite_debtless(
     order: &[u16],
     leads: &[u16],
     out: &mut [u8],
+    codes: &[u8],
+    reads: &[u16],
 ) -> Answer
     requires { ⌜ Found (now file) (now tables) (now nodes) × WellFormed (netIn (now file) (now tables) (now nodes)) × TablesCame (now file) (now tables)
         × Complete inClock (netIn (now file) (now tables) (now nodes)) (now order) × LeadsIn (netIn (now file) (now tables) (now nodes)) (now leads)
-        × (closedDebt (netIn (now file) (now tables) (now nodes)) ≡ false) ⌝ }
+        × (closedDebt (netIn (now file) (now tables) (now nodes)) ≡ false)
+        × Columns (netIn (now file) (now tables) (now nodes)) (now codes) (now reads) (length (now nodes)) ⌝ }
     ensures { λ r. ⌜ (r ≡ debtlessOutcome (netIn (now (file .entry)) (now (tables .entry)) (now (nodes .entry))) (now (out .entry)) .answer)
         × (now (out .exit) ≡ debtlessOutcome (netIn (now (file .entry)) (now (tables .entry)) (now (nodes .entry))) (now (out .entry)) .out) ⌝ }
 {
     let mut roots = [0u16; 1024];
     let mut passes = [0u16; 1024];
-    find_roots(file, tables, nodes, &mut roots, &mut passes);
+    find_roots(
+        file,
+        tables,
+        nodes,
+        &mut roots,
+        &mut passes,
+        codes,
+        reads,
+    );
     let mut owners = [0u16; 1024];
     let mut words = [0u16; 1024];
     let mut sources = [0u16; 3072];
@@ -103,6 +115,8 @@ fn rewrite_debtless(
         &mut owners,
         &mut words,
         &mut sources,
+        codes,
+        reads,
     );
     let entries = plan.entries;
     let total = plan.total;
@@ -129,16 +143,21 @@ fn rewrite_opened(
     nodes: &[u16],
     order: &[u16],
     out: &mut [u8],
+    codes: &[u8],
+    reads: &[u16],
 ) -> Answer
     requires { ⌜ Found (now file) (now tables) (now nodes) × WellFormed (netIn (now file) (now tables) (now nodes)) × TablesCame (now file) (now tables)
-        × Complete inClock (netIn (now file) (now tables) (now nodes)) (now order) ⌝ }
+        × Complete inClock (netIn (now file) (now tables) (now nodes)) (now order)
+        × Columns (netIn (now file) (now tables) (now nodes)) (now codes) (now reads) (length (now nodes)) ⌝ }
     ensures { λ r. ⌜ (r ≡ netOutcome (netIn (now (file .entry)) (now (tables .entry)) (now (nodes .entry))) (now (out .entry)) .answer)
         × (now (out .exit) ≡ netOutcome (netIn (now (file .entry)) (now (tables .entry)) (now (nodes .entry))) (now (out .entry)) .out) ⌝ }
 {
     let mut leads = [0u16; 1024];
-    match find_leads(file, tables, nodes, order, &mut leads) {
+    match find_leads(file, tables, nodes, order, &mut leads, codes, reads) {
         Verdict::Refuses(number, place) => Answer::Refused(number, place),
-        Verdict::Fine => rewrite_debtless(file, tables, nodes, order, &leads, out),
+        Verdict::Fine => rewrite_debtless(
+            file, tables, nodes, order, &leads, out, codes, reads,
+        ),
     }
 }
 
@@ -149,8 +168,27 @@ pub fn rewrite_file(file: &[u8], out: &mut [u8]) -> Answer
     let mut tables = [0u16; 16];
     let mut nodes = [0u16; 1024];
     let mut order = [0u16; 1024];
-    match open_file(file, &mut tables, &mut nodes, &mut order) {
+    let mut codes = [0u8; 1024];
+    let mut widths = [0u8; 1024];
+    let mut reads = [0u16; 3072];
+    match open_columns(
+        file,
+        &mut tables,
+        &mut nodes,
+        &mut order,
+        &mut codes,
+        &mut widths,
+        &mut reads,
+    ) {
         Scanned::Refuse(number, place) => Answer::Refused(number, place),
-        Scanned::Fields(t, n) => rewrite_opened(file, &tables[..t], &nodes[..n], &order, out),
+        Scanned::Fields(t, n) => rewrite_opened(
+            file,
+            &tables[..t],
+            &nodes[..n],
+            &order,
+            out,
+            &codes,
+            &reads,
+        ),
     }
 }

@@ -8,19 +8,19 @@ use Rattle.leads.proofs.worklist.push_sources.Statement.{statement}
 use Rattle.leads.proofs.worklist.push_sources.Tie as tie
 
 abbrev Inv-loop : tie.InvT-loop
-Inv-loop n stack₀ waiting₀ start sources depth₀ p₀ stack waiting depth p = (length stack ≡ length stack₀) × (length waiting ≡ length waiting₀) × (depth ≤ start + p) × (p ≤ n)
+Inv-loop reads at n stack₀ waiting₀ start depth₀ p₀ stack waiting depth p = (length stack ≡ length stack₀) × (length waiting ≡ length waiting₀) × (depth ≤ start + p) × (p ≤ n)
 
 abbrev μ-loop : tie.MeasureT-loop
-μ-loop n stack₀ waiting₀ start sources depth₀ p₀ stack waiting depth p = n - p
+μ-loop reads at n stack₀ waiting₀ start depth₀ p₀ stack waiting depth p = n - p
 
 loop-holds : tie.Need-loop-holds Inv-loop μ-loop
 loop-holds c = (refl, refl, omega arith, omega arith)
 
-mul-push : tie.Need-mul-push Inv-loop μ-loop
-mul-push c = omega arith
+add-number-at : tie.Need-add-number-at Inv-loop μ-loop
+add-number-at c = omega (arith, c .before .before .before .before .before .before .before .pre .0, c .before .before .before .before .before .before .before .pre .1, c .before .before .loop-test .taken)
 
-array-read-push : tie.Need-array-read-push Inv-loop μ-loop
-array-read-push c = omega arith
+number-at-requires : tie.Need-number-at-requires Inv-loop μ-loop
+number-at-requires c κs = search needs
 
 push-requires : tie.Need-push-requires Inv-loop μ-loop
 push-requires c κs = search needs
@@ -32,7 +32,7 @@ loop-less : tie.Need-loop-less Inv-loop μ-loop
 loop-less c = omega arith
 
 loop-again : tie.Need-loop-again Inv-loop μ-loop
-loop-again c = (c .before .before .before .before .push .kept .0 ∙ c .before .before .before .before .before .before .before .before .loop .inv .0, c .before .before .before .before .push .kept .1 .0 ∙ c .before .before .before .before .before .before .before .before .loop .inv .1, omega (arith, c .before .before .before .before .push .ensures), omega arith)
+loop-again c = (c .before .before .before .before .push .kept .0 ∙ c .before .before .before .before .before .before .before .before .before .loop .inv .0, c .before .before .before .before .push .kept .1 .0 ∙ c .before .before .before .before .before .before .before .before .before .loop .inv .1, omega (arith, c .before .before .before .before .push .ensures), omega arith)
 
 same-length : tie.Need-same-length Inv-loop μ-loop
 same-length c = c .before .loop .inv .0
@@ -50,8 +50,8 @@ push-sources-spec =
     Inv-loop
     μ-loop
     loop-holds
-    mul-push
-    array-read-push
+    add-number-at
+    number-at-requires
     push-requires
     add-p
     loop-less

@@ -10,10 +10,10 @@ use Rattle.leads.proofs.worklist.spread.Statement.{statement}
 use Rattle.leads.proofs.worklist.spread.Tie as tie
 
 abbrev Inv-loop : tie.InvT-loop
-Inv-loop file tables nodes roms bound order leads₀ stack₀ waiting₀ depth₀ leads stack waiting depth = (length leads ≡ length leads₀) × (length stack ≡ 1024) × (length waiting ≡ 1024) × Walked (netIn file tables nodes) leads
+Inv-loop file tables nodes roms bound order leads₀ codes reads stack₀ waiting₀ depth₀ leads stack waiting depth = (length leads ≡ length leads₀) × (length stack ≡ 1024) × (length waiting ≡ 1024) × Walked (netIn file tables nodes) leads
 
 abbrev μ-loop : tie.MeasureT-loop
-μ-loop file tables nodes roms bound order leads₀ stack₀ waiting₀ depth₀ leads stack waiting depth = depth + 4 * left (netIn file tables nodes) leads
+μ-loop file tables nodes roms bound order leads₀ codes reads stack₀ waiting₀ depth₀ leads stack waiting depth = depth + 4 * left (netIn file tables nodes) leads
 
 slice-aggregate-push-order : tie.Need-slice-aggregate-push-order Inv-loop μ-loop
 slice-aggregate-push-order c = search needs
@@ -25,7 +25,7 @@ push-order-requires : tie.Need-push-order-requires Inv-loop μ-loop
 push-order-requires c κs = search needs
 
 loop-holds : tie.Need-loop-holds Inv-loop μ-loop
-loop-holds c = (refl, c .before .before .push-order .kept .1 .1 .0 ∙ length-replicate {A = ℕ} 1024 0, c .before .before .push-order .kept .1 .1 .1 .0 ∙ length-replicate {A = ℕ} 1024 0, c .before .before .before .before .before .before .before .before .before .before .before .pre .2)
+loop-holds c = (refl, c .before .before .push-order .kept .1 .1 .0 ∙ length-replicate {A = ℕ} 1024 0, c .before .before .push-order .kept .1 .1 .1 .0 ∙ length-replicate {A = ℕ} 1024 0, c .before .before .before .before .before .before .before .before .before .before .before .before .before .pre .2)
 
 slice-aggregate-number-at : tie.Need-slice-aggregate-number-at Inv-loop μ-loop
 slice-aggregate-number-at c = sym (c .before .before .loop .inv .1)
@@ -49,7 +49,7 @@ sub-visit : tie.Need-sub-visit Inv-loop μ-loop
 sub-visit c = omega arith
 
 visit-requires : tie.Need-visit-requires Inv-loop μ-loop
-visit-requires c κs = (c .before .before .before .before .before .before .before .before .before .before .before .before .before .before .before .before .before .before .before .pre .0, c .before .before .before .before .before .before .before .before .before .before .before .before .before .before .before .before .before .before .before .pre .1, c .before .before .before .before .before .before .before .loop .inv .3)
+visit-requires c κs = (c .before .before .before .before .before .before .before .before .before .before .before .before .before .before .before .before .before .before .before .before .before .pre .0, c .before .before .before .before .before .before .before .before .before .before .before .before .before .before .before .before .before .before .before .before .before .pre .1, c .before .before .before .before .before .before .before .loop .inv .3)
 
 loop-less : tie.Need-loop-less Inv-loop μ-loop
 loop-less c = omega (arith, c .before .before .before .before .visit .ensures .1)

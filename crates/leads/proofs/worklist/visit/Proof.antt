@@ -2,12 +2,13 @@
 use mathlib.Core.Path.{_∙_}
 use native.Mathlib.Omega.{arith}
 use borrow.Author.Needs.{needs}
-use Rattle.netlist.specs.NodeLaws.{few-operands}
+use Rattle.netlist.specs.FileLaws.{size-in}
+use Rattle.columns.specs.Columns.{code-small}
 use Rattle.leads.proofs.worklist.visit.Statement.{statement}
 use Rattle.leads.proofs.worklist.visit.Tie as tie
 
 returns : tie.Need-returns
-returns c = (c .before .before .before .before .before .before .before .before .pre .2, omega arith)
+returns c = (c .before .before .before .before .before .before .before .before .before .before .pre .2, omega arith)
 
 number-at-requires : tie.Need-number-at-requires
 number-at-requires c κs = search needs
@@ -19,13 +20,13 @@ same-length : tie.Need-same-length
 same-length c = search needs
 
 returns-2 : tie.Need-returns-2
-returns-2 c = (c .before .before .before .before .before .before .before .before .before .before .before .before .pre .2, omega arith)
+returns-2 c = (c .before .before .before .before .before .before .before .before .before .before .before .before .before .before .pre .2, omega arith)
 
 put-flag-requires : tie.Need-put-flag-requires
 put-flag-requires c κs = search needs
 
 relax-requires : tie.Need-relax-requires
-relax-requires c κs = (c .before .before .before .before .before .before .before .before .before .before .before .before .before .before .before .before .before .pre .0, c .before .before .before .before .before .before .before .before .before .before .before .before .before .before .before .before .before .pre .1, omega (arith, c .before .before .before .before .before .before .before .before .before .if1 .left), c .before .before .before .before .before .before .before .before .before .before .before .before .before .before .before .before .before .pre .2)
+relax-requires c κs = (c .before .before .before .before .before .before .before .before .before .before .before .before .before .before .before .before .before .before .before .pre .0, c .before .before .before .before .before .before .before .before .before .before .before .before .before .before .before .before .before .before .before .pre .1, omega (arith, c .before .before .before .before .before .before .before .before .before .if1 .left), c .before .before .before .before .before .before .before .before .before .before .before .before .before .before .before .before .before .before .before .pre .2)
 
 same-length-2 : tie.Need-same-length-2
 same-length-2 c = c .before .before .before .relax .kept .1 .1 .1 .1 .1 .1 .0
@@ -36,26 +37,31 @@ same-length-3 c = c .before .before .before .before .before .before .before .put
 returns-3 : tie.Need-returns-3
 returns-3 c = ((c .before .before .before .relax .ensures .1 .walked), omega (arith, c .before .before .before .relax .ensures .1 .falls))
 
-node-requires : tie.Need-node-requires
-node-requires c κs = (c .before .before .before .before .before .before .before .before .before .before .before .before .before .before .before .before .before .before .before .before .before .pre .0, omega (arith, c .before .before .before .before .before .before .before .before .before .before .before .before .before .if1 .left))
+code-of-requires : tie.Need-code-of-requires
+code-of-requires c κs = search needs
 
-source-count-requires : tie.Need-source-count-requires
-source-count-requires c κs = search needs
+code-sources-requires : tie.Need-code-sources-requires
+code-sources-requires c κs = let a = c .before .before .before .before .before .before .before .before .before .before .before .before .before .before .before .before .before .before .before .before .before .before .before .before .args in
+    let z = size-in (a .file .now) (a .tables .now) (a .nodes .now) in
+    omega (arith, c .code-of .ensures .0, code-small _ (c .before .before .before .before .before .before .before .before .before .before .before .before .before .before .before .before .before .before .before .before .before .before .before .before .pre .1 .columns) (a .x) (omega (arith, c .before .before .before .before .before .before .before .before .before .before .before .before .before .before .if1 .left)))
+
+mul-push-sources : tie.Need-mul-push-sources
+mul-push-sources c = omega (arith, c .before .before .before .before .before .before .before .before .before .before .before .before .before .before .before .if1 .left, c .before .before .before .before .before .before .before .before .before .before .before .before .before .before .before .before .before .before .before .before .before .before .before .before .before .pre .0 .few-nodes)
 
 push-sources-requires : tie.Need-push-sources-requires
-push-sources-requires c κs = omega (arith, c .before .before .source-count .ensures, few-operands (c .before .before .before .before .node .result .element))
+push-sources-requires c κs = (c .before .before .code-sources .ensures .1, omega (arith, c .before .before .before .before .before .before .before .before .before .before .before .before .before .before .before .before .before .if1 .left, c .before .before .before .before .before .before .before .before .before .before .before .before .before .before .before .before .before .before .before .before .before .before .before .before .before .before .before .pre .0 .few-nodes))
 
 same-length-4 : tie.Need-same-length-4
-same-length-4 c = c .before .before .before .before .before .before .before .before .before .before .before .before .before .relax .kept .1 .1 .1 .1 .1 .1 .0
+same-length-4 c = c .before .before .before .before .before .before .before .before .before .before .before .before .relax .kept .1 .1 .1 .1 .1 .1 .0
 
 same-length-5 : tie.Need-same-length-5
-same-length-5 c = c .before .before .before .before .push-sources .kept .1 .1 .0
+same-length-5 c = c .before .before .before .before .push-sources .kept .1 .1 .1 .0
 
 same-length-6 : tie.Need-same-length-6
-same-length-6 c = c .before .before .before .before .push-sources .kept .1 .1 .1 .0 ∙ c .before .before .before .before .before .before .before .before .before .before .before .before .before .before .before .before .before .put-flag .kept .0
+same-length-6 c = c .before .before .before .before .push-sources .kept .1 .1 .1 .1 .0 ∙ c .before .before .before .before .before .before .before .before .before .before .before .before .before .before .before .before .put-flag .kept .0
 
 returns-4 : tie.Need-returns-4
-returns-4 c = ((c .before .before .before .before .before .before .before .before .before .before .before .before .before .relax .ensures .1 .walked), omega (arith, c .before .before .before .before .before .before .before .before .before .before .before .before .before .relax .ensures .1 .falls, c .before .before .before .before .push-sources .ensures, c .before .before .before .before .before .before .before .before .before .before .if3 .left))
+returns-4 c = ((c .before .before .before .before .before .before .before .before .before .before .before .before .relax .ensures .1 .walked), omega (arith, c .before .before .before .before .before .before .before .before .before .before .before .before .relax .ensures .1 .falls, c .before .before .before .before .push-sources .ensures, c .before .before .before .before .before .before .before .before .before .if3 .left))
 
 pub visit-spec : {M : Type 1} → statement M
 visit-spec =
@@ -71,8 +77,9 @@ visit-spec =
     same-length-2
     same-length-3
     returns-3
-    node-requires
-    source-count-requires
+    code-of-requires
+    code-sources-requires
+    mul-push-sources
     push-sources-requires
     same-length-4
     same-length-5

@@ -1,63 +1,23 @@
--- By the element.
+-- None at a register, else the code's sources.
 use native.Mathlib.Omega.{arith}
 use borrow.Author.Needs.{needs}
-use Rattle.netlist.specs.NodeLaws.{few-operands}
+use Rattle.plan.specs.WiringLaws.{register-wires, count-wires}
 use Rattle.plan.proofs.wiring.wires_to.Statement.{statement}
 use Rattle.plan.proofs.wiring.wires_to.Tie as tie
 
-enum-told : tie.Need-enum-told
-enum-told c = search needs
-
-enum-told-2 : tie.Need-enum-told-2
-enum-told-2 c = search needs
-
-enum-told-3 : tie.Need-enum-told-3
-enum-told-3 c = search needs
-
-enum-told-4 : tie.Need-enum-told-4
-enum-told-4 c = search needs
-
-enum-told-5 : tie.Need-enum-told-5
-enum-told-5 c = search needs
-
-enum-told-6 : tie.Need-enum-told-6
-enum-told-6 c = search needs
-
-source-count-requires : tie.Need-source-count-requires
-source-count-requires c κs = search needs
+code-sources-requires : tie.Need-code-sources-requires
+code-sources-requires c κs = c .before .pre
 
 returns : tie.Need-returns
-returns c = search needs
+returns c = (register-wires (c .if1 .taken), omega arith)
 
 returns-2 : tie.Need-returns-2
-returns-2 c = search needs
-
-returns-3 : tie.Need-returns-3
-returns-3 c = search needs
-
-returns-4 : tie.Need-returns-4
-returns-4 c = search needs
-
-returns-5 : tie.Need-returns-5
-returns-5 c = search needs
-
-returns-6 : tie.Need-returns-6
-returns-6 c = (search needs, omega (arith, c .source-count .ensures, few-operands (c .before .before .before .args .e)))
+returns-2 c = (count-wires (c .before .if1 .left) (c .code-sources .ensures .0), c .code-sources .ensures .1)
 
 pub wires-to-spec : {M : Type 1} → statement M
 wires-to-spec =
     tie.close
     (tie.spec
-    enum-told
-    enum-told-2
-    enum-told-3
-    enum-told-4
-    enum-told-5
-    enum-told-6
-    source-count-requires
+    code-sources-requires
     returns
-    returns-2
-    returns-3
-    returns-4
-    returns-5
-    returns-6)
+    returns-2)
