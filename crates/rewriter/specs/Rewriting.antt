@@ -1,11 +1,11 @@
 -- The rewriting of a file that the reader takes, check by check. Assumes nothing.
-use mathlib.Core.Path.{_≡_, refl, sym, ap, ap₂, _∙_}
+use mathlib.Core.Path.{_≡_, refl, sym, ap, ap₂, subst, _∙_}
 use mathlib.Core.Logic.{⊎-elim}
 use mathlib.Core.Bool.{Bool, true, false, cond}
 use mathlib.Core.List.{List, [], _∷_, _++_}
 use Prim.Native.Nat.{ℕ, _≤_, _<_, zero-le}
 use native.Mathlib.Omega.{arith}
-use lib.ListN.{length, drop, length-map}
+use lib.ListN.{length, take, drop, length-map}
 use lib.Dec.{ltb, lit<}
 use borrow.Author.Tests.{lt-ltb, le-ltb, ltb-false}
 use Rattle.lists.specs.BelowLaws.{true-or-false}
@@ -21,7 +21,10 @@ use Rattle.netlist.specs.declared.Verdict.the-variants.{Fine, Refuses}
 use Rattle.codec.specs.Bytes.{Bytes}
 use Rattle.codec.specs.DecodeWithin.{decode-within}
 use Rattle.codec.specs.EncodeDecode.{tables-as-they-came}
-use Rattle.checks.specs.Open.{Open}
+use Rattle.netlist.specs.declared.Scanned.{Scanned}
+use Rattle.netlist.specs.declared.Scanned.the-variants.{Fields}
+use Rattle.columns.specs.Columns.{Columns}
+use Rattle.checks.specs.Open.{Open, Columned, columned}
 use Rattle.checks.proofs.Opens.{decoded-as}
 use Rattle.behaviour.specs.Run.{zeroWord}
 use Rattle.retiming.specs.Leads.{closedDebt}
@@ -138,3 +141,12 @@ after-inside (Refuses k p) b out = zero-le
 pub accepted-inside : (s out : List ℕ) {r : Answer} {n : ℕ} → r ≡ rewriteFile s out .answer → r ≡ Accepted n → n ≤ length out
 unfolding rewriteFile lengthOf
 accepted-inside s out {n = n} e q = let l : lengthOf (Accepted n) ≡ lengthOf (rewriteFile s out .answer) = ap lengthOf (sym q ∙ e) in omega (arith, after-inside (rewriterVerdict s) (rewrittenFile s) out)
+
+-- ---- the columns that opening leaves
+
+columns-with : {s us vs codes sources widths : List ℕ} {t n : ℕ} → Columned s us vs codes sources widths (Fields t n) → Columns (netIn s (take t us) (take n vs)) codes sources (length (take n vs))
+columns-with (columned a b) = a
+
+pub columns-of : {s us vs codes sources widths : List ℕ} {r : Scanned} {t n : ℕ} → Columned s us vs codes sources widths r → r ≡ Fields t n
+    → Columns (netIn s (take t us) (take n vs)) codes sources (length (take n vs))
+columns-of {s} {us} {vs} {codes} {sources} {widths} c e = columns-with (subst (Columned s us vs codes sources widths) e c)

@@ -17,6 +17,7 @@ use writer::put_head;
 ghost use mathlib.Core.Path.{_≡_};
 ghost use mathlib.Core.Bool.{false};
 ghost use Prim.Native.Nat.{_≤_};
+ghost use lib.ListN.{length};
 ghost use Rattle.netlist.specs.Net.{inClock};
 ghost use Rattle.netlist.specs.Checks.{WellFormed};
 ghost use Rattle.netlist.specs.ScanLaws.{Found};
@@ -92,15 +93,7 @@ fn rewrite_debtless(
 {
     let mut roots = [0u16; 1024];
     let mut passes = [0u16; 1024];
-    find_roots(
-        file,
-        tables,
-        nodes,
-        &mut roots,
-        &mut passes,
-        codes,
-        reads,
-    );
+    find_roots(file, tables, nodes, &mut roots, &mut passes, codes, reads);
     let mut owners = [0u16; 1024];
     let mut words = [0u16; 1024];
     let mut sources = [0u16; 3072];
@@ -155,9 +148,7 @@ fn rewrite_opened(
     let mut leads = [0u16; 1024];
     match find_leads(file, tables, nodes, order, &mut leads, codes, reads) {
         Verdict::Refuses(number, place) => Answer::Refused(number, place),
-        Verdict::Fine => rewrite_debtless(
-            file, tables, nodes, order, &leads, out, codes, reads,
-        ),
+        Verdict::Fine => rewrite_debtless(file, tables, nodes, order, &leads, out, codes, reads),
     }
 }
 
