@@ -1,10 +1,12 @@
 -- A node's kind tells in which rows it has a word. Assumes nothing.
 use mathlib.Core.Path.{_≡_, refl, sym, ap, _∙_}
 use mathlib.Core.Bool.{Bool, true, _||_}
-use Prim.Native.Nat.{ℕ}
+use Prim.Native.Nat.{ℕ, _≤_, _<_}
+use native.Mathlib.Omega.{arith}
 use lib.Dec.{eqb}
 use borrow.Author.Tests.{eq-eqb, ne-eqb}
 use Rattle.netlist.specs.NodeField.{kindOf}
+use Rattle.nodes.specs.Code.{codeOf}
 use Rattle.netlist.specs.declared.Element.{Element}
 use Rattle.netlist.specs.declared.Element.the-variants.{Input, Output, Register, Async, Clocked, Gate}
 use Rattle.evaluate.specs.Rows.{inRow}
@@ -47,3 +49,20 @@ module _ {k : ℕ} where
 
   pub clocked-test : (k ≡ 2 → ⊥) → eqb k 4 ≡ kindTest State k
   clocked-test h = sym (ap (λ (b : Bool). b || eqb k 4) (ne-eqb k 2 h))
+
+-- the kind of a code
+pub low-kind : (e : Element) → codeOf e < 5 → codeOf e ≡ kindOf e
+low-kind Input h = refl
+low-kind Output h = refl
+low-kind (Register r) h = refl
+low-kind (Async m) h = refl
+low-kind (Clocked m r) h = refl
+low-kind (Gate o) h = absurd (omega arith)
+
+pub gate-kind : (e : Element) → 5 ≤ codeOf e → 5 ≡ kindOf e
+gate-kind Input h = absurd (omega arith)
+gate-kind Output h = absurd (omega arith)
+gate-kind (Register r) h = absurd (omega arith)
+gate-kind (Async m) h = absurd (omega arith)
+gate-kind (Clocked m r) h = absurd (omega arith)
+gate-kind (Gate o) h = refl

@@ -1,12 +1,16 @@
 // The words of all nodes in one clock: the lent rows of words are loaded, then each node is evaluated after what it reads.
+pub mod lent;
+
 use areas::number_at;
 use areas::put_number;
+use columns::fill_columns;
 use gates::gate;
 use index::wide;
 use index::width;
+use lent::count_row_by;
+use lent::load_row_by;
 use reader::table_part;
 use words::Op;
-use words::fits_width;
 use words::word_at;
 ghost use mathlib.Core.Path.{_≡_};
 ghost use mathlib.Core.Bool.{true};
@@ -73,25 +77,19 @@ pub fn in_row(file: &[u8], tables: &[u16], nodes: &[u16], row: Row, v: usize) ->
     kind_in_row(row, byte_at(file, wide(nodes[v]) + 3))
 }
 
-// How many words a row has.
+// How many words a row has, for whoever has no columns.
 pub fn count_row(file: &[u8], tables: &[u16], nodes: &[u16], row: Row) -> usize
     requires { ⌜ Found (now file) (now tables) (now nodes) ⌝ }
     ensures { λ r. ⌜ (r ≡ countBelow (rowTest row (netIn (now (file .entry)) (now (tables .entry)) (now (nodes .entry)))) (length (now (nodes .entry)))) × (r ≤ 1024) ⌝ }
 {
-    let mut count: usize = 0;
-    let mut v: usize = 0;
-    while v < nodes.len() {
-        if in_row(file, tables, nodes, row, v) {
-            count = count + 1;
-            v = v + 1;
-        } else {
-            v = v + 1;
-        }
-    }
-    count
+    let mut codes = [0u8; 1024];
+    let mut widths = [0u8; 1024];
+    let mut sources = [0u16; 3072];
+    fill_columns(file, tables, nodes, &mut codes, &mut widths, &mut sources);
+    count_row_by(file, tables, nodes, row, &codes, &sources)
 }
 
-// Loads a lent row into the words of its nodes, where it has just one fitting word for each of them. After `false` nothing is said of the words, a work area.
+// Loads a lent row into the words of its nodes, where it has just one fitting word for each of them, for whoever has no columns.
 pub fn load_row(
     file: &[u8],
     tables: &[u16],
@@ -104,26 +102,21 @@ pub fn load_row(
     ensures { λ r. ⌜ (r ≡ fittingBytes (rowWidths row (netIn (now (file .entry)) (now (tables .entry)) (now (nodes .entry)))) (now (bytes .entry)))
         × (r ≡ true → Loaded row (netIn (now (file .entry)) (now (tables .entry)) (now (nodes .entry))) (now (bytes .entry)) (now (words .entry)) (now (words .exit))) ⌝ }
 {
-    let mut at: usize = 0;
-    let mut v: usize = 0;
-    while v < nodes.len() {
-        if in_row(file, tables, nodes, row, v) {
-            if bytes.len() < at + 2 {
-                return false;
-            }
-            let word = word_at(bytes, at);
-            if fits_width(word, width(file, tables, nodes, v)) {
-                words[v] = word;
-                at = at + 2;
-                v = v + 1;
-            } else {
-                return false;
-            }
-        } else {
-            v = v + 1;
-        }
-    }
-    bytes.len() == at
+    let mut codes = [0u8; 1024];
+    let mut widths = [0u8; 1024];
+    let mut sources = [0u16; 3072];
+    fill_columns(file, tables, nodes, &mut codes, &mut widths, &mut sources);
+    load_row_by(
+        file,
+        tables,
+        nodes,
+        row,
+        bytes,
+        words,
+        &codes,
+        &sources,
+        &widths,
+    )
 }
 
 // The word of table k at an address.

@@ -2,14 +2,16 @@
 use mathlib.Core.Path.{_≡_, refl, sym, ap, _∙_}
 use mathlib.Core.Bool.{Bool, true, cond}
 use mathlib.Core.List.{List, [], _∷_}
-use Prim.Native.Nat.{ℕ, _+_, _≤_, _<_}
+use Prim.Native.Nat.{ℕ, _+_, _*_, _/_, _%_, _^_, _≤_, _<_}
+use native.Mathlib.Nat.{mod-lt}
 use native.Mathlib.Omega.{arith}
-use lib.ListN.{getD}
+use lib.ListN.{length, getD}
+use lib.Pow.{pow-pos}
 use lib.Seq.{getD-append-add}
-use lib.Dec.{eqb, eqb→eq, lit≤}
+use lib.Dec.{T, eqb, eqb→eq, lit≤}
 use borrow.Author.Tests.{ne-eqb}
 use Rattle.lists.specs.Paths.{arms-eq}
-use Rattle.lists.specs.TableRule.{at}
+use Rattle.lists.specs.TableRule.{every, at}
 use Rattle.words.specs.declared.Op.{Op}
 use Rattle.words.specs.declared.Op.the-variants.{Constant, Not, And, Or, Xor, Add, Subtract, Equal, Less, Choose, Part, Join}
 use Rattle.words.specs.Words.{operandCounts}
@@ -139,3 +141,17 @@ code-gate (Register r) h = absurd (omega arith)
 code-gate (Async m) h = absurd (omega arith)
 code-gate (Clocked m r) h = absurd (omega arith)
 code-gate (Gate o) h = refl
+
+-- ---- a list of small numbers packed into one, b bits for each
+
+abbrev pub packed : ℕ → ℕ → ℕ → ℕ → Bool
+packed b c k x = eqb (c / 2 ^ (b * k) % 2 ^ b) x
+
+pub unpacked : (b c : ℕ) (xs : List ℕ) → T (every (packed b c) 0 xs) → (k : ℕ) → k < length xs → (c / 2 ^ (b * k) % 2 ^ b ≡ getD xs k 0) × (c / 2 ^ (b * k) % 2 ^ b < 2 ^ b)
+unpacked b c xs t k h = (eqb→eq _ _ (at (packed b c) xs t k h), mod-lt (c / 2 ^ (b * k)) (pow-pos b))
+
+pub sources-packed : T (every (packed 2 10647933268) 0 sourcesByCode)
+sources-packed = tt
+
+pub clock-packed : T (every (packed 2 10647932996) 0 clockByCode)
+clock-packed = tt

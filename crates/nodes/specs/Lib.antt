@@ -1,3 +1,4 @@
 pub mod Room
 pub mod Unchecked
 pub mod Code
+pub mod Good

@@ -1,4 +1,6 @@
 // Reads the content of a node field.
+pub mod good;
+
 use netlist::Element;
 use netlist::ElementRead;
 use netlist::Memory;
@@ -188,24 +190,24 @@ pub fn source_count(e: Element) -> usize
     }
 }
 
-// The elements by one number, their code: the kinds, where each operation of a gate counts as a kind.
-const SOURCES: [usize; 17] = [0, 1, 1, 1, 1, 0, 1, 2, 2, 2, 2, 2, 2, 2, 3, 1, 2];
+// The elements by one number, their code: the kinds, where each operation of a gate counts as a kind. Two bits of a number for each code say
+// how many sources it has, and how many of them count within the clock: a table of constants would be put on the stack at each look.
+const SOURCES: u64 = 10647933268;
 
-const IN_CLOCK: [usize; 17] = [0, 1, 0, 1, 0, 0, 1, 2, 2, 2, 2, 2, 2, 2, 3, 1, 2];
+const IN_CLOCK: u64 = 10647932996;
 
-// How many sources an element of a code has, and how many of them count within the clock.
 pub fn code_sources(code: usize) -> usize
     requires { ⌜ code < 17 ⌝ }
     ensures { λ r. ⌜ (r ≡ getD sourcesByCode code 0) × (r ≤ 3) ⌝ }
 {
-    SOURCES[code]
+    ((SOURCES >> (2 * code)) % 4) as usize
 }
 
 pub fn code_in_clock(code: usize) -> usize
     requires { ⌜ code < 17 ⌝ }
     ensures { λ r. ⌜ (r ≡ getD clockByCode code 0) × (r ≤ 3) ⌝ }
 {
-    IN_CLOCK[code]
+    ((IN_CLOCK >> (2 * code)) % 4) as usize
 }
 
 // Where the first source of an element stands: behind kind and width, and a gate's behind its operation.
@@ -218,25 +220,19 @@ pub fn first_source(e: Element) -> usize
     }
 }
 
-// The word at a place, where it stands whole.
-fn word_or_zero(s: &[u8], at: usize) -> u16
-    ensures { λ r. ⌜ (at + 1 < length (now (s .entry)) → r ≡ word (now (s .entry)) at) ⌝ }
+// A word that counts where i is below n. It is there in any case: how many sources a node has follows no pattern, and a branch on it would be predicted wrong.
+fn word_kept(word: u16, i: usize, n: usize) -> u16
+    ensures { λ r. ⌜ r ≡ pick (ltb i n) word 0 ⌝ }
 {
-    if at < s.len() {
-        if 1 < s.len() - at {
-            return word_at(s, at);
-        }
-    }
-    0
+    if i < n { word } else { 0 }
 }
 
-// The word at a place, or 0 where i is not below n. It is read in any case: how many sources a node has follows no pattern, and a branch on it would be predicted wrong.
+// The word at a place, or 0 where i is not below n.
 fn word_if(s: &[u8], at: usize, i: usize, n: usize) -> u16
     requires { ⌜ (i < n → at + 1 < length (now s)) ⌝ }
     ensures { λ r. ⌜ r ≡ pick (ltb i n) (word (now (s .entry)) at) 0 ⌝ }
 {
-    let word = word_or_zero(s, at);
-    if i < n { word } else { 0 }
+    if i < n { word_at(s, at) } else { 0 }
 }
 
 // The sources of a node's record.
@@ -247,6 +243,13 @@ pub fn sources_from(s: &[u8], at: usize, n: usize) -> Sources
     requires { ⌜ at + 2 * n ≤ length (now s) ⌝ }
     ensures { λ r. ⌜ r ≡ sourcesFrom (now (s .entry)) at n ⌝ }
 {
+    if 5 < s.len() - at {
+        let first = word_kept(word_at(s, at), 0, n);
+        let second = word_kept(word_at(s, at + 2), 1, n);
+        let third = word_kept(word_at(s, at + 4), 2, n);
+        return [first, second, third];
+    }
+    // So near the end only the words that count are there.
     let first = word_if(s, at, 0, n);
     let second = word_if(s, at + 2, 1, n);
     let third = word_if(s, at + 4, 2, n);
@@ -279,15 +282,5 @@ pub fn node_of(s: &[u8]) -> NodeRead
                 },
             }
         }
-    }
-}
-
-// Whether a content is well made, and no more: what check 5 asks of a field.
-pub fn content_good(s: &[u8]) -> bool
-    ensures { λ r. ⌜ r ≡ nodeRead (now (s .entry)) .good ⌝ }
-{
-    match element_of(s) {
-        ElementRead::Bad => false,
-        ElementRead::Found(_) => true,
     }
 }

@@ -1,9 +1,9 @@
 -- All words of a table fit where the largest does. Assumes nothing.
 use mathlib.Core.Path.{_≡_, sym, ap, ap₂, _∙_}
 use mathlib.Core.Logic.{⊎-elim}
-use mathlib.Core.Bool.{Bool, _&&_}
+use mathlib.Core.Bool.{Bool, true, _&&_}
 use mathlib.Core.List.{List}
-use Prim.Native.Nat.{ℕ, zero, suc, _+_, _-_, _*_, _/_, _^_, max}
+use Prim.Native.Nat.{ℕ, zero, suc, _+_, _-_, _*_, _/_, _^_, _<_, max}
 use native.Mathlib.Omega.{arith}
 use lib.Pow.{pow-pos}
 use lib.ListN.{length, getD, take, drop, length-drop}
@@ -11,7 +11,7 @@ use lib.Seq.{getD-drop, take-all}
 use lib.Dec.{ltb}
 use borrow.Author.Tests.{lt-ltb, le-ltb}
 use Rattle.lists.specs.Lists.{largest, allBelow}
-use Rattle.lists.specs.BelowLaws.{lt-or-le}
+use Rattle.lists.specs.BelowLaws.{lt-or-le, allBelow-intro}
 use Rattle.words.specs.Words.{fits, word}
 use Rattle.netlist.specs.TableField.{wordAt}
 
@@ -42,3 +42,8 @@ words-fit c n w e =
     ap (λ (r : List ℕ). fits (largest (length r / 2) (λ a. word r (2 * a))) w) whole
     ∙ ap (λ (k : ℕ). fits (largest k (λ a. word (drop 2 c) (2 * a))) w) half
     ∙ largest-fits w (λ a. word (drop 2 c) (2 * a)) (wordAt c) (behind c) n
+
+-- a word of two bytes fits 16 bits
+pub words-fit-16 : (c : List ℕ) (n w : ℕ) → w ≡ 16 → ((i : ℕ) → getD c i 0 < 256) → true ≡ allBelow n (λ a. fits (wordAt c a) w)
+words-fit-16 c n w e b =
+    sym (allBelow-intro n (λ a. fits (wordAt c a) w) (λ a _. ap (fits (wordAt c a)) e ∙ lt-ltb (wordAt c a) 65536 (omega (arith, b (2 + 2 * a), b (2 + 2 * a + 1)))))

@@ -6,8 +6,8 @@ use netlist::Memory;
 use netlist::Node;
 use netlist::Scanned;
 use netlist::Step;
-use nodes::content_good;
 use nodes::first_source;
+use nodes::good::content_good;
 use nodes::plain_op;
 use nodes::source_count;
 use nodes::sources_from;
@@ -80,6 +80,10 @@ fn table_good(c: &[u8]) -> bool
     }
     if c.len() != 2 + 2 * word_count(bits) {
         return false;
+    }
+    // Every word is one of 16 bits.
+    if width == 16 {
+        return true;
     }
     fits_width(largest_word(&c[2..]), width)
 }

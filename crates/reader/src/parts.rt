@@ -1,29 +1,16 @@
 // A node's parts, read with no branch on its kind: kinds follow no pattern, and such branches would be predicted wrong.
 use nodes::Sources;
 use nodes::code_sources;
+use nodes::good::of_gate;
+use nodes::good::wide8;
 use nodes::sources_from;
 ghost use mathlib.Core.Path.{_≡_};
 ghost use Prim.Native.Nat.{_+_, _<_, _≤_};
-ghost use lib.Dec.{eqb};
-ghost use Rattle.lists.specs.Paths.{pick};
 ghost use Rattle.netlist.specs.declared.Element.{Element};
 ghost use Rattle.netlist.specs.NodeField.{firstSource};
 ghost use Rattle.netlist.specs.ScanLaws.{NodeAt};
 ghost use Rattle.netlist.specs.File.{nodeIn};
 ghost use Rattle.nodes.specs.Code.{codeOf};
-
-fn wide8(x: u8) -> usize
-    ensures { λ r. ⌜ (r ≡ x) × (r ≤ 255) ⌝ }
-{
-    x as usize
-}
-
-// A number that counts for gates only.
-fn of_gate(kind: u8, x: usize) -> usize
-    ensures { λ r. ⌜ r ≡ pick (eqb kind 5) x 0 ⌝ }
-{
-    if kind == 5 { x } else { 0 }
-}
 
 // The code of the node whose field stands at an offset: its kind, and of a gate 5 more than its operation.
 pub fn code_at(file: &[u8], at: usize) -> usize

@@ -1,8 +1,8 @@
 -- The services over a file, from what opening it left. Assumes nothing.
-use mathlib.Core.Path.{_≡_, ap, _∙_}
+use mathlib.Core.Path.{_≡_, ap, subst, _∙_}
 use mathlib.Core.List.{List}
 use Prim.Native.Nat.{ℕ}
-use lib.ListN.{take}
+use lib.ListN.{length, take}
 use Rattle.netlist.specs.Net.{Net, inClock}
 use Rattle.netlist.specs.VerdictLaws.{reader-fine}
 use Rattle.netlist.specs.Checks.{WellFormed}
@@ -16,7 +16,8 @@ use Rattle.codec.specs.Bytes.{Bytes}
 use Rattle.codec.specs.DecodeWithin.{decode-within}
 use Rattle.order.specs.Order.{Complete}
 use Rattle.behaviour.specs.Service.{resetNet, resetAfter, resetDecoded, resetFile, runNet, runAfter, runDecoded, runFile}
-use Rattle.checks.specs.Open.{Open, Opened}
+use Rattle.columns.specs.Columns.{Columns, Widths}
+use Rattle.checks.specs.Open.{Open, Opened, Columned, columned}
 use Rattle.checks.proofs.Opens.{decoded-as, opened-fields}
 
 -- ---- a file that is refused
@@ -62,3 +63,13 @@ module _ {s us vs order : List ℕ} {r : Scanned} {t n : ℕ} (w : Opened s us v
   pub run-taken : (st ins outs : List ℕ) → runFile s st ins outs ≡ runNet N st ins outs
   unfolding runFile
   run-taken st ins outs = ap (λ (d : Decoded). runDecoded d st ins outs) reads ∙ ap (λ (v : Verdict). runAfter v N st ins outs) (taken .fine)
+
+-- and the columns of its nodes
+module _ {s us vs codes sources widths : List ℕ} where
+  held : {t n : ℕ} → Columned s us vs codes sources widths (Fields t n)
+      → Columns (netIn s (take t us) (take n vs)) codes sources (length (take n vs)) × Widths (netIn s (take t us) (take n vs)) widths (length (take n vs))
+  held (columned a b) = (a, b)
+
+  pub columns-held : {r : Scanned} {t n : ℕ} → Columned s us vs codes sources widths r → r ≡ Fields t n
+      → Columns (netIn s (take t us) (take n vs)) codes sources (length (take n vs)) × Widths (netIn s (take t us) (take n vs)) widths (length (take n vs))
+  columns-held w e = held (subst (Columned s us vs codes sources widths) e w)

@@ -1,12 +1,12 @@
 // The reset service and the run of one clock, on the bytes that a host lends. Nothing is written before every check is passed.
 use areas::number_at;
-use checks::open_file;
+use checks::open_columns;
 use evaluate::Row;
 use evaluate::byte_at;
-use evaluate::count_row;
 use evaluate::evaluate;
-use evaluate::in_row;
-use evaluate::load_row;
+use evaluate::lent::count_row_by;
+use evaluate::lent::in_row_by;
+use evaluate::lent::load_row_by;
 use evaluate::operand;
 use evaluate::rom_word;
 use index::node;
@@ -22,6 +22,7 @@ ghost use Rattle.netlist.specs.Net.{inClock, outputsOf};
 ghost use Rattle.netlist.specs.Checks.{WellFormed};
 ghost use Rattle.netlist.specs.ScanLaws.{Found};
 ghost use Rattle.netlist.specs.File.{netIn};
+ghost use Rattle.columns.specs.Columns.{Columns, Widths};
 ghost use Rattle.order.specs.Order.{Complete};
 ghost use Rattle.behaviour.specs.Run.{holds-first, resetState, nextState};
 ghost use Rattle.behaviour.specs.Service.{bytesOf, wordsIn, roomFor, resetNet, resetFile, runNet, runFile};
@@ -54,15 +55,23 @@ pub fn reset_word(e: Element) -> u16
 }
 
 // Fills a state with the reset words.
-fn store_reset(file: &[u8], tables: &[u16], nodes: &[u16], state: &mut [u8])
+fn store_reset(
+    file: &[u8],
+    tables: &[u16],
+    nodes: &[u16],
+    state: &mut [u8],
+    codes: &[u8],
+    sources: &[u16],
+)
     requires { ⌜ Found (now file) (now tables) (now nodes)
-        × (roomFor (rowWidths Row.State (netIn (now file) (now tables) (now nodes))) (now state) ≡ true) ⌝ }
+        × (roomFor (rowWidths Row.State (netIn (now file) (now tables) (now nodes))) (now state) ≡ true)
+        × Columns (netIn (now file) (now tables) (now nodes)) (now codes) (now sources) (length (now nodes)) ⌝ }
     ensures { λ _. ⌜ now (state .exit) ≡ bytesOf (resetState (netIn (now (file .entry)) (now (tables .entry)) (now (nodes .entry)))) ⌝ }
 {
     let mut at: usize = 0;
     let mut v: usize = 0;
     while v < nodes.len() {
-        if in_row(file, tables, nodes, Row::State, v) {
+        if in_row_by(file, tables, nodes, Row::State, v, codes, sources) {
             let x = node(file, tables, nodes, v);
             let e = x.element;
             put_word(state, at, reset_word(e));
@@ -75,13 +84,21 @@ fn store_reset(file: &[u8], tables: &[u16], nodes: &[u16], state: &mut [u8])
 }
 
 // The reset service over an opened file: 16 where the state's length does not fit.
-fn reset_opened(file: &[u8], tables: &[u16], nodes: &[u16], state: &mut [u8]) -> Answer
-    requires { ⌜ Found (now file) (now tables) (now nodes) ⌝ }
+fn reset_opened(
+    file: &[u8],
+    tables: &[u16],
+    nodes: &[u16],
+    state: &mut [u8],
+    codes: &[u8],
+    sources: &[u16],
+) -> Answer
+    requires { ⌜ Found (now file) (now tables) (now nodes)
+        × Columns (netIn (now file) (now tables) (now nodes)) (now codes) (now sources) (length (now nodes)) ⌝ }
     ensures { λ r. ⌜ (r ≡ resetNet (netIn (now (file .entry)) (now (tables .entry)) (now (nodes .entry))) (now (state .entry)) .answer)
         × (now (state .exit) ≡ resetNet (netIn (now (file .entry)) (now (tables .entry)) (now (nodes .entry))) (now (state .entry)) .state) ⌝ }
 {
-    if state.len() == 2 * count_row(file, tables, nodes, Row::State) {
-        store_reset(file, tables, nodes, state);
+    if state.len() == 2 * count_row_by(file, tables, nodes, Row::State, codes, sources) {
+        store_reset(file, tables, nodes, state, codes, sources);
         Answer::Accepted(state.len())
     } else {
         Answer::Refused(16, 65535)
@@ -112,16 +129,25 @@ pub fn next_word(file: &[u8], tables: &[u16], nodes: &[u16], v: usize, words: &[
 }
 
 // Puts the next state in the state's place. The words of the clock stay as they are, so no register sees another's new word.
-fn store_state(file: &[u8], tables: &[u16], nodes: &[u16], words: &[u16], state: &mut [u8])
+fn store_state(
+    file: &[u8],
+    tables: &[u16],
+    nodes: &[u16],
+    words: &[u16],
+    state: &mut [u8],
+    codes: &[u8],
+    sources: &[u16],
+)
     requires { ⌜ Found (now file) (now tables) (now nodes) × WellFormed (netIn (now file) (now tables) (now nodes))
         × WordsFit (netIn (now file) (now tables) (now nodes)) (now words)
-        × (roomFor (rowWidths Row.State (netIn (now file) (now tables) (now nodes))) (now state) ≡ true) ⌝ }
+        × (roomFor (rowWidths Row.State (netIn (now file) (now tables) (now nodes))) (now state) ≡ true)
+        × Columns (netIn (now file) (now tables) (now nodes)) (now codes) (now sources) (length (now nodes)) ⌝ }
     ensures { λ _. ⌜ now (state .exit) ≡ bytesOf (nextState (netIn (now (file .entry)) (now (tables .entry)) (now (nodes .entry))) (wordsIn (now (state .entry))) (now (words .entry))) ⌝ }
 {
     let mut at: usize = 0;
     let mut u: usize = 0;
     while u < nodes.len() {
-        if in_row(file, tables, nodes, Row::State, u) {
+        if in_row_by(file, tables, nodes, Row::State, u, codes, sources) {
             put_word(state, at, next_word(file, tables, nodes, u, words));
             at = at + 2;
             u = u + 1;
@@ -132,15 +158,24 @@ fn store_state(file: &[u8], tables: &[u16], nodes: &[u16], words: &[u16], state:
 }
 
 // Writes the words of the output ports.
-fn store_outputs(file: &[u8], tables: &[u16], nodes: &[u16], words: &[u16], outputs: &mut [u8])
+fn store_outputs(
+    file: &[u8],
+    tables: &[u16],
+    nodes: &[u16],
+    words: &[u16],
+    outputs: &mut [u8],
+    codes: &[u8],
+    sources: &[u16],
+)
     requires { ⌜ Found (now file) (now tables) (now nodes)
-        × (roomFor (rowWidths Row.Outputs (netIn (now file) (now tables) (now nodes))) (now outputs) ≡ true) ⌝ }
+        × (roomFor (rowWidths Row.Outputs (netIn (now file) (now tables) (now nodes))) (now outputs) ≡ true)
+        × Columns (netIn (now file) (now tables) (now nodes)) (now codes) (now sources) (length (now nodes)) ⌝ }
     ensures { λ _. ⌜ now (outputs .exit) ≡ bytesOf (outputsOf (netIn (now (file .entry)) (now (tables .entry)) (now (nodes .entry))) (λ v. getD (now (words .entry)) v 0)) ⌝ }
 {
     let mut at: usize = 0;
     let mut v: usize = 0;
     while v < nodes.len() {
-        if in_row(file, tables, nodes, Row::Outputs, v) {
+        if in_row_by(file, tables, nodes, Row::Outputs, v, codes, sources) {
             put_word(outputs, at, number_at(words, v));
             at = at + 2;
             v = v + 1;
@@ -159,20 +194,45 @@ fn run_opened(
     state: &mut [u8],
     inputs: &[u8],
     outputs: &mut [u8],
+    codes: &[u8],
+    sources: &[u16],
+    widths: &[u8],
 ) -> Answer
     requires { ⌜ Found (now file) (now tables) (now nodes) × WellFormed (netIn (now file) (now tables) (now nodes))
-        × Complete inClock (netIn (now file) (now tables) (now nodes)) (now order) ⌝ }
+        × Complete inClock (netIn (now file) (now tables) (now nodes)) (now order)
+        × Columns (netIn (now file) (now tables) (now nodes)) (now codes) (now sources) (length (now nodes))
+        × Widths (netIn (now file) (now tables) (now nodes)) (now widths) (length (now nodes)) ⌝ }
     ensures { λ r. ⌜ (r ≡ runNet (netIn (now (file .entry)) (now (tables .entry)) (now (nodes .entry))) (now (state .entry)) (now (inputs .entry)) (now (outputs .entry)) .answer)
         × (now (state .exit) ≡ runNet (netIn (now (file .entry)) (now (tables .entry)) (now (nodes .entry))) (now (state .entry)) (now (inputs .entry)) (now (outputs .entry)) .state)
         × (now (outputs .exit) ≡ runNet (netIn (now (file .entry)) (now (tables .entry)) (now (nodes .entry))) (now (state .entry)) (now (inputs .entry)) (now (outputs .entry)) .outputs) ⌝ }
 {
     let mut words = [0u16; 1024];
-    if load_row(file, tables, nodes, Row::Inputs, inputs, &mut words) {
-        if outputs.len() == 2 * count_row(file, tables, nodes, Row::Outputs) {
-            if load_row(file, tables, nodes, Row::State, state, &mut words) {
+    if load_row_by(
+        file,
+        tables,
+        nodes,
+        Row::Inputs,
+        inputs,
+        &mut words,
+        codes,
+        sources,
+        widths,
+    ) {
+        if outputs.len() == 2 * count_row_by(file, tables, nodes, Row::Outputs, codes, sources) {
+            if load_row_by(
+                file,
+                tables,
+                nodes,
+                Row::State,
+                state,
+                &mut words,
+                codes,
+                sources,
+                widths,
+            ) {
                 evaluate(file, tables, nodes, order, &mut words);
-                store_outputs(file, tables, nodes, &words, outputs);
-                store_state(file, tables, nodes, &words, state);
+                store_outputs(file, tables, nodes, &words, outputs, codes, sources);
+                store_state(file, tables, nodes, &words, state, codes, sources);
                 Answer::Accepted(outputs.len())
             } else {
                 Answer::Refused(16, 65535)
@@ -195,9 +255,27 @@ pub fn reset_state(file: &[u8], state: &mut [u8]) -> Answer
     let mut tables = [0u16; 16];
     let mut nodes = [0u16; 1024];
     let mut order = [0u16; 1024];
-    match open_file(file, &mut tables, &mut nodes, &mut order) {
+    let mut codes = [0u8; 1024];
+    let mut widths = [0u8; 1024];
+    let mut sources = [0u16; 3072];
+    match open_columns(
+        file,
+        &mut tables,
+        &mut nodes,
+        &mut order,
+        &mut codes,
+        &mut widths,
+        &mut sources,
+    ) {
         Scanned::Refuse(number, place) => Answer::Refused(number, place),
-        Scanned::Fields(t, n) => reset_opened(file, &tables[..t], &nodes[..n], state),
+        Scanned::Fields(t, n) => reset_opened(
+            file,
+            &tables[..t],
+            &nodes[..n],
+            state,
+            &codes,
+            &sources,
+        ),
     }
 }
 
@@ -210,7 +288,18 @@ pub fn run_clock(file: &[u8], state: &mut [u8], inputs: &[u8], outputs: &mut [u8
     let mut tables = [0u16; 16];
     let mut nodes = [0u16; 1024];
     let mut order = [0u16; 1024];
-    match open_file(file, &mut tables, &mut nodes, &mut order) {
+    let mut codes = [0u8; 1024];
+    let mut widths = [0u8; 1024];
+    let mut sources = [0u16; 3072];
+    match open_columns(
+        file,
+        &mut tables,
+        &mut nodes,
+        &mut order,
+        &mut codes,
+        &mut widths,
+        &mut sources,
+    ) {
         Scanned::Refuse(number, place) => Answer::Refused(number, place),
         Scanned::Fields(t, n) => {
             run_opened(
@@ -221,6 +310,9 @@ pub fn run_clock(file: &[u8], state: &mut [u8], inputs: &[u8], outputs: &mut [u8
                 state,
                 inputs,
                 outputs,
+                &codes,
+                &sources,
+                &widths,
             )
         }
     }

@@ -1,90 +1,41 @@
--- The loop's invariant: as many as there are among the nodes passed.
-use mathlib.Core.Path.{_≡_, refl, sym, ap, _∙_}
-use Prim.Native.Nat.{ℕ, _+_, _-_, _≤_}
-use native.Mathlib.Omega.{arith}
-use lib.ListN.{length}
-use Rattle.netlist.specs.File.{netIn}
-use Rattle.lists.specs.Lists.{countBelow}
-use Rattle.lists.specs.BelowLaws.{countBelow-le}
-use Rattle.evaluate.specs.Rows.{rowTest}
-use Rattle.evaluate.specs.SelectLaws.{count-none, count-one}
+-- Over columns filled for it alone.
+use borrow.Author.Needs.{needs}
 use Rattle.evaluate.proofs.count_row.Statement.{statement}
 use Rattle.evaluate.proofs.count_row.Tie as tie
 
-abbrev Inv-loop : tie.InvT-loop
-Inv-loop file tables nodes row count₀ v₀ count v = (v ≤ length nodes) × (count ≡ countBelow (rowTest row (netIn file tables nodes)) v)
+slice-aggregate-fill-columns : tie.Need-slice-aggregate-fill-columns
+slice-aggregate-fill-columns c = search needs
 
-abbrev μ-loop : tie.MeasureT-loop
-μ-loop file tables nodes row count₀ v₀ count v = length nodes - v
+slice-aggregate-fill-columns-2 : tie.Need-slice-aggregate-fill-columns-2
+slice-aggregate-fill-columns-2 c = search needs
 
-loop-holds : tie.Need-loop-holds Inv-loop μ-loop
-loop-holds c = (omega arith, refl)
+slice-aggregate-fill-columns-3 : tie.Need-slice-aggregate-fill-columns-3
+slice-aggregate-fill-columns-3 c = search needs
 
-in-row-requires : tie.Need-in-row-requires Inv-loop μ-loop
-in-row-requires c κs = (c .before .before .before .before .before .pre, c .loop-test .taken)
+fill-columns-requires : tie.Need-fill-columns-requires
+fill-columns-requires c κs = search needs
 
-add-count : tie.Need-add-count Inv-loop μ-loop
-add-count c =
-    let a = c .before .before .before .before .before .before .before .args in
-    let s = a .file .now in
-    let ts = a .tables .now in
-    let ns = a .nodes .now in
-    let N = netIn s ts ns in
-    omega (arith, countBelow-le (rowTest (a .row) N) (c .before .before .before .loop .v))
+slice-aggregate-count-row-by : tie.Need-slice-aggregate-count-row-by
+slice-aggregate-count-row-by c = search needs
 
-add-v : tie.Need-add-v Inv-loop μ-loop
-add-v c = omega arith
+slice-aggregate-count-row-by-2 : tie.Need-slice-aggregate-count-row-by-2
+slice-aggregate-count-row-by-2 c = search needs
 
-loop-less : tie.Need-loop-less Inv-loop μ-loop
-loop-less c = omega arith
+count-row-by-requires : tie.Need-count-row-by-requires
+count-row-by-requires c κs = (c .before .before .before .before .before .before .before .before .before .before .before .before .pre, c .before .before .before .before .before .fill-columns .ensures .0)
 
-loop-again : tie.Need-loop-again Inv-loop μ-loop
-loop-again c =
-    let a = c .before .before .before .before .before .before .before .args in
-    let s = a .file .now in
-    let ts = a .tables .now in
-    let ns = a .nodes .now in
-    let N = netIn s ts ns in
-    (omega arith, ap (λ (k : ℕ). k + 1) (c .before .before .before .loop .inv .1) ∙ sym (count-one (rowTest (a .row) N) (c .before .before .before .loop .v) (sym (c .before .in-row .ensures) ∙ c .if1 .taken)))
-
-add-v-2 : tie.Need-add-v-2 Inv-loop μ-loop
-add-v-2 c = omega arith
-
-loop-less-2 : tie.Need-loop-less-2 Inv-loop μ-loop
-loop-less-2 c = omega arith
-
-loop-again-2 : tie.Need-loop-again-2 Inv-loop μ-loop
-loop-again-2 c =
-    let a = c .before .before .before .before .before .before .before .args in
-    let s = a .file .now in
-    let ts = a .tables .now in
-    let ns = a .nodes .now in
-    let N = netIn s ts ns in
-    (omega arith, c .before .before .before .loop .inv .1 ∙ sym (count-none (rowTest (a .row) N) (c .before .before .before .loop .v) (sym (c .before .in-row .ensures) ∙ c .if1 .left)))
-
-returns : tie.Need-returns Inv-loop μ-loop
-returns c =
-    let a = c .before .before .before .before .before .args in
-    let s = a .file .now in
-    let ts = a .tables .now in
-    let ns = a .nodes .now in
-    let N = netIn s ts ns in
-    let e : c .before .loop .v ≡ length ns = omega arith in
-    (c .before .loop .inv .1 ∙ ap (countBelow (rowTest (a .row) N)) e, omega (arith, countBelow-le (rowTest (a .row) N) (c .before .loop .v), c .before .before .before .before .before .pre .few-nodes))
+returns : tie.Need-returns
+returns c = c .count-row-by .ensures
 
 pub count-row-spec : {M : Type 1} → statement M
 count-row-spec =
     tie.close
     (tie.spec
-    Inv-loop
-    μ-loop
-    loop-holds
-    in-row-requires
-    add-count
-    add-v
-    loop-less
-    loop-again
-    add-v-2
-    loop-less-2
-    loop-again-2
+    slice-aggregate-fill-columns
+    slice-aggregate-fill-columns-2
+    slice-aggregate-fill-columns-3
+    fill-columns-requires
+    slice-aggregate-count-row-by
+    slice-aggregate-count-row-by-2
+    count-row-by-requires
     returns)

@@ -1,133 +1,49 @@
--- The loop's invariant: the words of the nodes passed are loaded.
-use mathlib.Core.Path.{sym, subst, _∙_}
-use Prim.Native.Nat.{ℕ, _-_, _^_, _≤_, _<_}
-use native.Mathlib.Omega.{arith}
-use lib.ListN.{length}
-use Rattle.netlist.specs.Net.{widthAt}
-use Rattle.netlist.specs.File.{netIn}
-use Rattle.netlist.specs.FileLaws.{size-in}
-use Rattle.evaluate.specs.Rows.{rowTest}
-use Rattle.evaluate.specs.Loading.{Loading, load-none, load-skip, load-take}
-use Rattle.evaluate.proofs.ByKind.{all-narrow}
-use borrow.Author.Tests.{ltb-true, ltb-false}
-use Rattle.evaluate.proofs.Rows.{too-short, too-wide, loaded}
+-- Over columns filled for it alone.
+use borrow.Author.Needs.{needs}
 use Rattle.evaluate.proofs.load_row.Statement.{statement}
 use Rattle.evaluate.proofs.load_row.Tie as tie
 
-abbrev Inv-loop : tie.InvT-loop
-Inv-loop file tables nodes row bytes words₀ at₀ v₀ words at v = (v ≤ length nodes) × Loading (rowTest row (netIn file tables nodes)) (λ u. widthAt (netIn file tables nodes) u) bytes words₀ words v at
+slice-aggregate-fill-columns : tie.Need-slice-aggregate-fill-columns
+slice-aggregate-fill-columns c = search needs
 
-abbrev μ-loop : tie.MeasureT-loop
-μ-loop file tables nodes row bytes words₀ at₀ v₀ words at v = length nodes - v
+slice-aggregate-fill-columns-2 : tie.Need-slice-aggregate-fill-columns-2
+slice-aggregate-fill-columns-2 c = search needs
 
-loop-holds : tie.Need-loop-holds Inv-loop μ-loop
-loop-holds c = (omega arith, load-none _ _ _ _)
+slice-aggregate-fill-columns-3 : tie.Need-slice-aggregate-fill-columns-3
+slice-aggregate-fill-columns-3 c = search needs
 
-in-row-requires : tie.Need-in-row-requires Inv-loop μ-loop
-in-row-requires c κs = (c .before .before .before .before .before .before .before .pre .0, c .loop-test .taken)
+fill-columns-requires : tie.Need-fill-columns-requires
+fill-columns-requires c κs = search needs
 
-add-if2 : tie.Need-add-if2 Inv-loop μ-loop
-add-if2 c = omega arith
+slice-aggregate-load-row-by : tie.Need-slice-aggregate-load-row-by
+slice-aggregate-load-row-by c = search needs
 
-same-length : tie.Need-same-length Inv-loop μ-loop
-same-length c = c .before .before .before .before .loop .inv .1 .kept
+slice-aggregate-load-row-by-2 : tie.Need-slice-aggregate-load-row-by-2
+slice-aggregate-load-row-by-2 c = search needs
 
-returns : tie.Need-returns Inv-loop μ-loop
-returns c =
-    let a = c .before .before .before .before .before .before .before .before .before .before .args in
-    let s = a .file .now in
-    let ts = a .tables .now in
-    let ns = a .nodes .now in
-    too-short (c .before .before .before .before .loop .inv .1) (sym (c .before .before .in-row .ensures) ∙ c .before .if1 .taken) (let z = size-in s ts ns in omega (arith, c .before .before .before .loop-test .taken)) (c .if2 .taken)
+slice-aggregate-load-row-by-3 : tie.Need-slice-aggregate-load-row-by-3
+slice-aggregate-load-row-by-3 c = search needs
 
-word-at-requires : tie.Need-word-at-requires Inv-loop μ-loop
-word-at-requires c κs = omega arith
+load-row-by-requires : tie.Need-load-row-by-requires
+load-row-by-requires c κs = (c .before .before .before .before .before .before .before .before .before .before .before .before .before .before .before .before .pre .0, c .before .before .before .before .before .before .before .before .before .before .before .before .before .before .before .before .pre .1, c .before .before .before .before .before .before .before .before .before .before .before .before .before .before .before .before .pre .2, c .before .before .before .before .before .before .before .fill-columns .ensures .0, c .before .before .before .before .before .before .before .fill-columns .ensures .1)
 
-width-requires : tie.Need-width-requires Inv-loop μ-loop
-width-requires c κs = c .before .before .before .before .before .before .before .before .before .before .before .pre .0
+same-length : tie.Need-same-length
+same-length c = search needs
 
-fits-width-requires : tie.Need-fits-width-requires Inv-loop μ-loop
-fits-width-requires c κs =
-    let a = c .before .before .before .before .before .before .before .before .before .before .before .before .args in
-    let s = a .file .now in
-    let ts = a .tables .now in
-    let ns = a .nodes .now in
-    let N = netIn s ts ns in
-    omega (arith, c .width .ensures, all-narrow N (c .before .before .before .before .before .before .before .before .before .before .before .before .pre .1) (c .before .before .before .before .before .before .loop .v))
-
-mul-words : tie.Need-mul-words Inv-loop μ-loop
-mul-words c = omega (arith, c .before .before .before .before .before .before .before .before .loop .inv .1 .kept)
-
-slice-write-words : tie.Need-slice-write-words Inv-loop μ-loop
-slice-write-words c = omega (arith, c .before .before .before .before .before .before .before .before .loop .inv .1 .kept)
-
-add-at : tie.Need-add-at Inv-loop μ-loop
-add-at c = omega arith
-
-add-v : tie.Need-add-v Inv-loop μ-loop
-add-v c = omega arith
-
-loop-less : tie.Need-loop-less Inv-loop μ-loop
-loop-less c = omega arith
-
-loop-again : tie.Need-loop-again Inv-loop μ-loop
-loop-again c = (omega arith, load-take (c .before .before .before .before .before .before .before .before .loop .inv .1) (sym (c .before .before .before .before .before .before .in-row .ensures) ∙ c .before .before .before .before .before .if1 .taken) (c .before .before .before .word-at .result) (c .before .before .before .word-at .ensures) (c .before .before .before .before .if2 .left) (subst (λ (k : ℕ). c .before .before .before .word-at .result < 2 ^ k) (c .before .before .width .ensures) (ltb-true _ _ (sym (c .before .fits-width .ensures) ∙ c .if3 .taken))) (omega (arith, c .before .before .before .before .before .before .before .before .loop .inv .1 .kept)))
-
-same-length-2 : tie.Need-same-length-2 Inv-loop μ-loop
-same-length-2 c = c .before .before .before .before .before .before .before .before .loop .inv .1 .kept
-
-returns-2 : tie.Need-returns-2 Inv-loop μ-loop
-returns-2 c =
-    let a = c .before .before .before .before .before .before .before .before .before .before .before .before .before .before .args in
-    let s = a .file .now in
-    let ts = a .tables .now in
-    let ns = a .nodes .now in
-    too-wide (c .before .before .before .before .before .before .before .before .loop .inv .1) (sym (c .before .before .before .before .before .before .in-row .ensures) ∙ c .before .before .before .before .before .if1 .taken) (let z = size-in s ts ns in omega (arith, c .before .before .before .before .before .before .before .loop-test .taken)) (c .before .before .before .word-at .result) (c .before .before .before .word-at .ensures) (subst (λ (k : ℕ). 2 ^ k ≤ c .before .before .before .word-at .result) (c .before .before .width .ensures) (ltb-false _ _ (sym (c .before .fits-width .ensures) ∙ c .if3 .left)))
-
-add-v-2 : tie.Need-add-v-2 Inv-loop μ-loop
-add-v-2 c = omega arith
-
-loop-less-2 : tie.Need-loop-less-2 Inv-loop μ-loop
-loop-less-2 c = omega arith
-
-loop-again-2 : tie.Need-loop-again-2 Inv-loop μ-loop
-loop-again-2 c = (omega arith, load-skip (c .before .before .before .loop .inv .1) (sym (c .before .in-row .ensures) ∙ c .if1 .left))
-
-same-length-3 : tie.Need-same-length-3 Inv-loop μ-loop
-same-length-3 c = c .before .loop .inv .1 .kept
-
-returns-3 : tie.Need-returns-3 Inv-loop μ-loop
-returns-3 c =
-    let a = c .before .before .before .before .before .before .before .args in
-    let s = a .file .now in
-    let ts = a .tables .now in
-    let ns = a .nodes .now in
-    loaded (c .before .loop .inv .1) (let z = size-in s ts ns in omega arith)
+returns : tie.Need-returns
+returns c = c .before .before .load-row-by .ensures
 
 pub load-row-spec : {M : Type 1} → statement M
 load-row-spec =
     tie.close
     (tie.spec
-    Inv-loop
-    μ-loop
-    loop-holds
-    in-row-requires
-    add-if2
+    slice-aggregate-fill-columns
+    slice-aggregate-fill-columns-2
+    slice-aggregate-fill-columns-3
+    fill-columns-requires
+    slice-aggregate-load-row-by
+    slice-aggregate-load-row-by-2
+    slice-aggregate-load-row-by-3
+    load-row-by-requires
     same-length
-    returns
-    word-at-requires
-    width-requires
-    fits-width-requires
-    mul-words
-    slice-write-words
-    add-at
-    add-v
-    loop-less
-    loop-again
-    same-length-2
-    returns-2
-    add-v-2
-    loop-less-2
-    loop-again-2
-    same-length-3
-    returns-3)
+    returns)

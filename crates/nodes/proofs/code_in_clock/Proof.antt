@@ -1,28 +1,20 @@
--- The table's rule, proved once over the whole table.
-use mathlib.Core.Path.{refl}
-use mathlib.Core.Bool.{Bool}
-use Prim.Native.Nat.{ℕ}
-use lib.ListN.{getD}
+-- The two bits of the code.
+use native.Mathlib.Omega.{arith}
 use borrow.Author.Needs.{needs}
-use lib.Dec.{leb, leb→le}
-use Rattle.nodes.specs.Code.{clockByCode}
-use Rattle.lists.specs.TableRule.{at}
+use Rattle.nodes.specs.Code.{clockByCode, unpacked, clock-packed}
 use Rattle.nodes.proofs.code_in_clock.Statement.{statement}
 use Rattle.nodes.proofs.code_in_clock.Tie as tie
-
-small : ℕ → ℕ → Bool
-small k x = leb x 3
 
 mul-result : tie.Need-mul-result
 mul-result c = search needs
 
-array-read-result : tie.Need-array-read-result
-array-read-result c = search needs
+shr-result : tie.Need-shr-result
+shr-result c = search needs
 
 returns : tie.Need-returns
-unfolding small
 returns c =
-    (refl, leb→le (getD clockByCode (c .args .code) 0) 3 (at small clockByCode tt (c .args .code) (c .pre)))
+    let u = unpacked 2 10647932996 clockByCode clock-packed (c .args .code) (c .pre) in
+    (u .0, omega (arith, u .1))
 
 pub code-in-clock-spec : {M : Type 1} → statement M
-code-in-clock-spec = tie.close (tie.spec mul-result array-read-result returns)
+code-in-clock-spec = tie.close (tie.spec mul-result shr-result returns)

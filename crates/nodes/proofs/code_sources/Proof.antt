@@ -1,28 +1,20 @@
--- The table's rule, proved once over the whole table.
-use mathlib.Core.Path.{refl}
-use mathlib.Core.Bool.{Bool}
-use Prim.Native.Nat.{ℕ}
-use lib.ListN.{getD}
+-- The two bits of the code.
+use native.Mathlib.Omega.{arith}
 use borrow.Author.Needs.{needs}
-use lib.Dec.{leb, leb→le}
-use Rattle.nodes.specs.Code.{sourcesByCode}
-use Rattle.lists.specs.TableRule.{at}
+use Rattle.nodes.specs.Code.{sourcesByCode, unpacked, sources-packed}
 use Rattle.nodes.proofs.code_sources.Statement.{statement}
 use Rattle.nodes.proofs.code_sources.Tie as tie
-
-small : ℕ → ℕ → Bool
-small k x = leb x 3
 
 mul-result : tie.Need-mul-result
 mul-result c = search needs
 
-array-read-result : tie.Need-array-read-result
-array-read-result c = search needs
+shr-result : tie.Need-shr-result
+shr-result c = search needs
 
 returns : tie.Need-returns
-unfolding small
 returns c =
-    (refl, leb→le (getD sourcesByCode (c .args .code) 0) 3 (at small sourcesByCode tt (c .args .code) (c .pre)))
+    let u = unpacked 2 10647933268 sourcesByCode sources-packed (c .args .code) (c .pre) in
+    (u .0, omega (arith, u .1))
 
 pub code-sources-spec : {M : Type 1} → statement M
-code-sources-spec = tie.close (tie.spec mul-result array-read-result returns)
+code-sources-spec = tie.close (tie.spec mul-result shr-result returns)

@@ -9,48 +9,48 @@ use Rattle.run.proofs.Outcomes.{filled, row-room, row-other, reset-done
 use Rattle.run.proofs.reset_opened.Statement.{statement}
 use Rattle.run.proofs.reset_opened.Tie as tie
 
-count-row-requires : tie.Need-count-row-requires
-count-row-requires c κs = c .before .before .before .before .pre
+count-row-by-requires : tie.Need-count-row-by-requires
+count-row-by-requires c κs = c .before .before .before .before .before .before .pre
 
 mul-if1 : tie.Need-mul-if1
-mul-if1 c = omega (arith, c .count-row .ensures .1)
+mul-if1 c = omega (arith, c .count-row-by .ensures .1)
 
 store-reset-requires : tie.Need-store-reset-requires
 store-reset-requires c κs =
-    let a = c .before .before .before .before .before .before .before .args in
+    let a = c .before .before .before .before .before .before .before .before .before .args in
     let s = a .file .now in
     let ts = a .tables .now in
     let ns = a .nodes .now in
     let N = netIn s ts ns in
-    (c .before .before .before .before .before .before .before .pre, row-room N (size-in s ts ns) State (c .before .before .count-row .ensures .0) (a .state .now) (c .before .if1 .taken))
+    (c .before .before .before .before .before .before .before .before .before .pre .0, row-room N (size-in s ts ns) State (c .before .before .count-row-by .ensures .0) (a .state .now) (c .before .if1 .taken), c .before .before .before .before .before .before .before .before .before .pre .1)
 
 same-length : tie.Need-same-length
 same-length c = c .before .before .store-reset .kept .1 .1 .1 .0
 
 returns : tie.Need-returns
 returns c =
-    let a = c .before .before .before .before .before .before .before .before .before .before .args in
+    let a = c .before .before .before .before .before .before .before .before .before .before .before .before .args in
     let s = a .file .now in
     let ts = a .tables .now in
     let ns = a .nodes .now in
     let N = netIn s ts ns in
-    let o = filled (reset-done N (a .state .now) (row-room N (size-in s ts ns) State (c .before .before .before .before .before .count-row .ensures .0) (a .state .now) (c .before .before .before .before .if1 .taken))) in
+    let o = filled (reset-done N (a .state .now) (row-room N (size-in s ts ns) State (c .before .before .before .before .before .count-row-by .ensures .0) (a .state .now) (c .before .before .before .before .if1 .taken))) in
     (ap Accepted (c .before .before .store-reset .kept .1 .1 .1 .0) ∙ o .0, c .before .before .store-reset .ensures ∙ o .1)
 
 returns-2 : tie.Need-returns-2
 returns-2 c =
-    let a = c .before .before .before .before .before .before .args in
+    let a = c .before .before .before .before .before .before .before .before .args in
     let s = a .file .now in
     let ts = a .tables .now in
     let ns = a .nodes .now in
     let N = netIn s ts ns in
-    filled (reset-refused N (a .state .now) (row-other N (size-in s ts ns) State (c .before .count-row .ensures .0) (a .state .now) (c .if1 .left)))
+    filled (reset-refused N (a .state .now) (row-other N (size-in s ts ns) State (c .before .count-row-by .ensures .0) (a .state .now) (c .if1 .left)))
 
 pub reset-opened-spec : {M : Type 1} → statement M
 reset-opened-spec =
     tie.close
     (tie.spec
-    count-row-requires
+    count-row-by-requires
     mul-if1
     store-reset-requires
     same-length

@@ -15,39 +15,39 @@ use Rattle.run.proofs.Outcomes.{ran, row-room, row-other, fitting-room,
 use Rattle.run.proofs.run_opened.Statement.{statement}
 use Rattle.run.proofs.run_opened.Tie as tie
 
-slice-aggregate-load-row : tie.Need-slice-aggregate-load-row
-slice-aggregate-load-row c = search needs
+slice-aggregate-load-row-by : tie.Need-slice-aggregate-load-row-by
+slice-aggregate-load-row-by c = search needs
 
-load-row-requires : tie.Need-load-row-requires
-load-row-requires c κs = (c .before .before .before .before .before .before .before .before .pre .0, c .before .before .before .before .before .before .before .before .pre .1, omega (arith, c .before .before .before .before .before .before .before .before .pre .0 .few-nodes))
+load-row-by-requires : tie.Need-load-row-by-requires
+load-row-by-requires c κs = (c .before .before .before .before .before .before .before .before .before .before .before .pre .0, c .before .before .before .before .before .before .before .before .before .before .before .pre .1, omega (arith, c .before .before .before .before .before .before .before .before .before .before .before .pre .0 .few-nodes), c .before .before .before .before .before .before .before .before .before .before .before .pre .3, c .before .before .before .before .before .before .before .before .before .before .before .pre .4)
 
-count-row-requires : tie.Need-count-row-requires
-count-row-requires c κs = c .before .before .before .before .before .before .before .before .before .before .before .pre .0
+count-row-by-requires : tie.Need-count-row-by-requires
+count-row-by-requires c κs = (c .before .before .before .before .before .before .before .before .before .before .before .before .before .before .pre .0, c .before .before .before .before .before .before .before .before .before .before .before .before .before .before .pre .3)
 
 mul-if2 : tie.Need-mul-if2
-mul-if2 c = omega (arith, c .count-row .ensures .1)
+mul-if2 c = omega (arith, c .count-row-by .ensures .1)
 
-slice-aggregate-load-row-2 : tie.Need-slice-aggregate-load-row-2
-slice-aggregate-load-row-2 c = search needs
+slice-aggregate-load-row-by-2 : tie.Need-slice-aggregate-load-row-by-2
+slice-aggregate-load-row-by-2 c = search needs
 
-load-row-requires-2 : tie.Need-load-row-requires-2
-load-row-requires-2 c κs = (c .before .before .before .before .before .before .before .before .before .before .before .before .before .before .before .pre .0, c .before .before .before .before .before .before .before .before .before .before .before .before .before .before .before .pre .1, omega (arith, c .before .before .before .before .before .before .before .before .before .before .before .before .before .before .before .pre .0 .few-nodes, (c .before .before .before .before .before .before .load-row .ensures .1 (c .before .before .before .before .if1 .taken)) .kept))
+load-row-by-requires-2 : tie.Need-load-row-by-requires-2
+load-row-by-requires-2 c κs = (c .before .before .before .before .before .before .before .before .before .before .before .before .before .before .before .before .before .before .pre .0, c .before .before .before .before .before .before .before .before .before .before .before .before .before .before .before .before .before .before .pre .1, omega (arith, c .before .before .before .before .before .before .before .before .before .before .before .before .before .before .before .before .before .before .pre .0 .few-nodes, (c .before .before .before .before .before .before .load-row-by .ensures .1 (c .before .before .before .before .if1 .taken)) .kept), c .before .before .before .before .before .before .before .before .before .before .before .before .before .before .before .before .before .before .pre .3, c .before .before .before .before .before .before .before .before .before .before .before .before .before .before .before .before .before .before .pre .4)
 
 slice-aggregate-evaluate : tie.Need-slice-aggregate-evaluate
 slice-aggregate-evaluate c = search needs
 
 evaluate-requires : tie.Need-evaluate-requires
 evaluate-requires c κs =
-    let a = (c .before .before .before .before .before .before .before .before .before .before .load-row .ensures .1 (c .before .before .before .before .before .before .before .before .if1 .taken)) in
-    let b = (c .before .before .before .load-row2 .ensures .1 (c .before .if3 .taken)) in
-    (c .before .before .before .before .before .before .before .before .before .before .before .before .before .before .before .before .before .before .before .pre .0, c .before .before .before .before .before .before .before .before .before .before .before .before .before .before .before .before .before .before .before .pre .1, c .before .before .before .before .before .before .before .before .before .before .before .before .before .before .before .before .before .before .before .pre .2, omega (arith, c .before .before .before .before .before .before .before .before .before .before .before .before .before .before .before .before .before .before .before .pre .0 .few-nodes, a .kept, b .kept), inputs-fit a b, b .fit)
+    let a = (c .before .before .before .before .before .before .before .before .before .before .load-row-by .ensures .1 (c .before .before .before .before .before .before .before .before .if1 .taken)) in
+    let b = (c .before .before .before .load-row-by2 .ensures .1 (c .before .if3 .taken)) in
+    (c .before .before .before .before .before .before .before .before .before .before .before .before .before .before .before .before .before .before .before .before .before .before .pre .0, c .before .before .before .before .before .before .before .before .before .before .before .before .before .before .before .before .before .before .before .before .before .before .pre .1, c .before .before .before .before .before .before .before .before .before .before .before .before .before .before .before .before .before .before .before .before .before .before .pre .2, omega (arith, c .before .before .before .before .before .before .before .before .before .before .before .before .before .before .before .before .before .before .before .before .before .before .pre .0 .few-nodes, a .kept, b .kept), inputs-fit a b, b .fit)
 
 slice-aggregate-store-outputs : tie.Need-slice-aggregate-store-outputs
 slice-aggregate-store-outputs c = search needs
 
 store-outputs-requires : tie.Need-store-outputs-requires
 store-outputs-requires c κs =
-    let a = c .before .before .before .before .before .before .before .before .before .before .before .before .before .before .before .before .before .before .before .before .before .before .before .args in
+    let a = c .before .before .before .before .before .before .before .before .before .before .before .before .before .before .before .before .before .before .before .before .before .before .before .before .before .before .args in
     let s = a .file .now in
     let ts = a .tables .now in
     let ns = a .nodes .now in
@@ -55,14 +55,14 @@ store-outputs-requires c κs =
     let st = a .state .now in
     let ins = a .inputs .now in
     let outs = a .outputs .now in
-    (c .before .before .before .before .before .before .before .before .before .before .before .before .before .before .before .before .before .before .before .before .before .before .before .pre .0, row-room N (size-in s ts ns) Outputs (c .before .before .before .before .before .before .before .before .before .before .before .count-row .ensures .0) outs (c .before .before .before .before .before .before .before .before .before .before .if2 .taken))
+    (c .before .before .before .before .before .before .before .before .before .before .before .before .before .before .before .before .before .before .before .before .before .before .before .before .before .before .pre .0, row-room N (size-in s ts ns) Outputs (c .before .before .before .before .before .before .before .before .before .before .before .count-row-by .ensures .0) outs (c .before .before .before .before .before .before .before .before .before .before .if2 .taken), c .before .before .before .before .before .before .before .before .before .before .before .before .before .before .before .before .before .before .before .before .before .before .before .before .before .before .pre .3)
 
 slice-aggregate-store-state : tie.Need-slice-aggregate-store-state
 slice-aggregate-store-state c = search needs
 
 store-state-requires : tie.Need-store-state-requires
 store-state-requires c κs =
-    let a = c .before .before .before .before .before .before .before .before .before .before .before .before .before .before .before .before .before .before .before .before .before .before .before .before .before .before .before .before .args in
+    let a = c .before .before .before .before .before .before .before .before .before .before .before .before .before .before .before .before .before .before .before .before .before .before .before .before .before .before .before .before .before .before .before .args in
     let s = a .file .now in
     let ts = a .tables .now in
     let ns = a .nodes .now in
@@ -70,7 +70,7 @@ store-state-requires c κs =
     let st = a .state .now in
     let ins = a .inputs .now in
     let outs = a .outputs .now in
-    (c .before .before .before .before .before .before .before .before .before .before .before .before .before .before .before .before .before .before .before .before .before .before .before .before .before .before .before .before .pre .0, c .before .before .before .before .before .before .before .before .before .before .before .before .before .before .before .before .before .before .before .before .before .before .before .before .before .before .before .before .pre .1, run-fits (c .before .before .before .before .before .before .before .before .before .before .before .before .before .before .before .before .before .before .before .load-row .ensures .1 (c .before .before .before .before .before .before .before .before .before .before .before .before .before .before .before .before .before .if1 .taken)) (c .before .before .before .before .before .before .before .before .before .before .before .before .load-row2 .ensures .1 (c .before .before .before .before .before .before .before .before .before .before .if3 .taken)) (c .before .before .before .before .before .before .before .before .before .before .before .before .before .before .before .before .before .before .before .before .before .before .before .before .before .before .before .before .pre .1) (c .before .before .before .before .before .before .before .before .evaluate .ensures), fitting-room (rowWidths State N) st (sym (c .before .before .before .before .before .before .before .before .before .before .before .before .load-row2 .ensures .0) ∙ c .before .before .before .before .before .before .before .before .before .before .if3 .taken))
+    (c .before .before .before .before .before .before .before .before .before .before .before .before .before .before .before .before .before .before .before .before .before .before .before .before .before .before .before .before .before .before .before .pre .0, c .before .before .before .before .before .before .before .before .before .before .before .before .before .before .before .before .before .before .before .before .before .before .before .before .before .before .before .before .before .before .before .pre .1, run-fits (c .before .before .before .before .before .before .before .before .before .before .before .before .before .before .before .before .before .before .before .load-row-by .ensures .1 (c .before .before .before .before .before .before .before .before .before .before .before .before .before .before .before .before .before .if1 .taken)) (c .before .before .before .before .before .before .before .before .before .before .before .before .load-row-by2 .ensures .1 (c .before .before .before .before .before .before .before .before .before .before .if3 .taken)) (c .before .before .before .before .before .before .before .before .before .before .before .before .before .before .before .before .before .before .before .before .before .before .before .before .before .before .before .before .before .before .before .pre .1) (c .before .before .before .before .before .before .before .before .evaluate .ensures), fitting-room (rowWidths State N) st (sym (c .before .before .before .before .before .before .before .before .before .before .before .before .load-row-by2 .ensures .0) ∙ c .before .before .before .before .before .before .before .before .before .before .if3 .taken), c .before .before .before .before .before .before .before .before .before .before .before .before .before .before .before .before .before .before .before .before .before .before .before .before .before .before .before .before .before .before .before .pre .3)
 
 same-length : tie.Need-same-length
 same-length c = c .before .before .store-state .kept .1 .1 .1 .1 .0
@@ -80,7 +80,7 @@ same-length-2 c = c .before .before .before .before .before .before .before .sto
 
 returns : tie.Need-returns
 returns c =
-    let a = c .before .before .before .before .before .before .before .before .before .before .before .before .before .before .before .before .before .before .before .before .before .before .before .before .before .before .before .before .before .before .before .args in
+    let a = c .before .before .before .before .before .before .before .before .before .before .before .before .before .before .before .before .before .before .before .before .before .before .before .before .before .before .before .before .before .before .before .before .before .before .args in
     let s = a .file .now in
     let ts = a .tables .now in
     let ns = a .nodes .now in
@@ -88,13 +88,13 @@ returns c =
     let st = a .state .now in
     let ins = a .inputs .now in
     let outs = a .outputs .now in
-    let x = (c .before .before .before .before .before .before .before .before .before .before .before .before .before .before .before .before .before .before .before .before .before .before .load-row .ensures .1 (c .before .before .before .before .before .before .before .before .before .before .before .before .before .before .before .before .before .before .before .before .if1 .taken)) in
-    let y = (c .before .before .before .before .before .before .before .before .before .before .before .before .before .before .before .load-row2 .ensures .1 (c .before .before .before .before .before .before .before .before .before .before .before .before .before .if3 .taken)) in
+    let x = (c .before .before .before .before .before .before .before .before .before .before .before .before .before .before .before .before .before .before .before .before .before .before .load-row-by .ensures .1 (c .before .before .before .before .before .before .before .before .before .before .before .before .before .before .before .before .before .before .before .before .if1 .taken)) in
+    let y = (c .before .before .before .before .before .before .before .before .before .before .before .before .before .before .before .load-row-by2 .ensures .1 (c .before .before .before .before .before .before .before .before .before .before .before .before .before .if3 .taken)) in
     let e = c .before .before .before .before .before .before .before .before .before .before .before .evaluate .ensures in
-    let o = ran (run-done N st ins outs (sym (c .before .before .before .before .before .before .before .before .before .before .before .before .before .before .before .before .before .before .before .before .before .before .load-row .ensures .0) ∙ c .before .before .before .before .before .before .before .before .before .before .before .before .before .before .before .before .before .before .before .before .if1 .taken) (row-room N (size-in s ts ns) Outputs (c .before .before .before .before .before .before .before .before .before .before .before .before .before .before .before .before .before .before .before .count-row .ensures .0) outs (c .before .before .before .before .before .before .before .before .before .before .before .before .before .before .before .before .before .before .if2 .taken)) (sym (c .before .before .before .before .before .before .before .before .before .before .before .before .before .before .before .load-row2 .ensures .0) ∙ c .before .before .before .before .before .before .before .before .before .before .before .before .before .if3 .taken)) in (
+    let o = ran (run-done N st ins outs (sym (c .before .before .before .before .before .before .before .before .before .before .before .before .before .before .before .before .before .before .before .before .before .before .load-row-by .ensures .0) ∙ c .before .before .before .before .before .before .before .before .before .before .before .before .before .before .before .before .before .before .before .before .if1 .taken) (row-room N (size-in s ts ns) Outputs (c .before .before .before .before .before .before .before .before .before .before .before .before .before .before .before .before .before .before .before .count-row-by .ensures .0) outs (c .before .before .before .before .before .before .before .before .before .before .before .before .before .before .before .before .before .before .if2 .taken)) (sym (c .before .before .before .before .before .before .before .before .before .before .before .before .before .before .before .load-row-by2 .ensures .0) ∙ c .before .before .before .before .before .before .before .before .before .before .before .before .before .if3 .taken)) in (
       ap Accepted (c .before .before .before .before .before .before .before .store-outputs .kept .1 .1 .1 .1 .0) ∙ o .0,
-      c .before .before .store-state .ensures ∙ ap (λ (l : List ℕ). bytesOf l) (run-state x y (c .before .before .before .before .before .before .before .before .before .before .before .before .before .before .before .before .before .before .before .before .before .before .before .before .before .before .before .before .before .before .before .pre .1) e) ∙ o .1,
-      c .before .before .before .before .before .before .before .store-outputs .ensures ∙ ap (λ (l : List ℕ). bytesOf l) (run-outputs x y (c .before .before .before .before .before .before .before .before .before .before .before .before .before .before .before .before .before .before .before .before .before .before .before .before .before .before .before .before .before .before .before .pre .1) e) ∙ o .2,
+      c .before .before .store-state .ensures ∙ ap (λ (l : List ℕ). bytesOf l) (run-state x y (c .before .before .before .before .before .before .before .before .before .before .before .before .before .before .before .before .before .before .before .before .before .before .before .before .before .before .before .before .before .before .before .before .before .before .pre .1) e) ∙ o .1,
+      c .before .before .before .before .before .before .before .store-outputs .ensures ∙ ap (λ (l : List ℕ). bytesOf l) (run-outputs x y (c .before .before .before .before .before .before .before .before .before .before .before .before .before .before .before .before .before .before .before .before .before .before .before .before .before .before .before .before .before .before .before .before .before .before .pre .1) e) ∙ o .2,
     )
 
 same-length-3 : tie.Need-same-length-3
@@ -102,7 +102,7 @@ same-length-3 c = search needs
 
 returns-2 : tie.Need-returns-2
 returns-2 c =
-    let a = c .before .before .before .before .before .before .before .before .before .before .before .before .before .before .before .before .before .before .args in
+    let a = c .before .before .before .before .before .before .before .before .before .before .before .before .before .before .before .before .before .before .before .before .before .args in
     let s = a .file .now in
     let ts = a .tables .now in
     let ns = a .nodes .now in
@@ -110,11 +110,11 @@ returns-2 c =
     let st = a .state .now in
     let ins = a .inputs .now in
     let outs = a .outputs .now in
-    ran (run-refused N st ins outs (sym (c .before .before .before .before .before .before .before .before .before .load-row .ensures .0) ∙ c .before .before .before .before .before .before .before .if1 .taken) (row-room N (size-in s ts ns) Outputs (c .before .before .before .before .before .before .count-row .ensures .0) outs (c .before .before .before .before .before .if2 .taken)) (sym (c .before .before .load-row2 .ensures .0) ∙ c .if3 .left))
+    ran (run-refused N st ins outs (sym (c .before .before .before .before .before .before .before .before .before .load-row-by .ensures .0) ∙ c .before .before .before .before .before .before .before .if1 .taken) (row-room N (size-in s ts ns) Outputs (c .before .before .before .before .before .before .count-row-by .ensures .0) outs (c .before .before .before .before .before .if2 .taken)) (sym (c .before .before .load-row-by2 .ensures .0) ∙ c .if3 .left))
 
 returns-3 : tie.Need-returns-3
 returns-3 c =
-    let a = c .before .before .before .before .before .before .before .before .before .before .before .before .before .args in
+    let a = c .before .before .before .before .before .before .before .before .before .before .before .before .before .before .before .before .args in
     let s = a .file .now in
     let ts = a .tables .now in
     let ns = a .nodes .now in
@@ -122,11 +122,11 @@ returns-3 c =
     let st = a .state .now in
     let ins = a .inputs .now in
     let outs = a .outputs .now in
-    ran (run-room N st ins outs (sym (c .before .before .before .before .load-row .ensures .0) ∙ c .before .before .if1 .taken) (row-other N (size-in s ts ns) Outputs (c .before .count-row .ensures .0) outs (c .if2 .left)))
+    ran (run-room N st ins outs (sym (c .before .before .before .before .load-row-by .ensures .0) ∙ c .before .before .if1 .taken) (row-other N (size-in s ts ns) Outputs (c .before .count-row-by .ensures .0) outs (c .if2 .left)))
 
 returns-4 : tie.Need-returns-4
 returns-4 c =
-    let a = c .before .before .before .before .before .before .before .before .before .before .before .args in
+    let a = c .before .before .before .before .before .before .before .before .before .before .before .before .before .before .args in
     let s = a .file .now in
     let ts = a .tables .now in
     let ns = a .nodes .now in
@@ -134,18 +134,18 @@ returns-4 c =
     let st = a .state .now in
     let ins = a .inputs .now in
     let outs = a .outputs .now in
-    ran (run-inputs N st ins outs (sym (c .before .before .load-row .ensures .0) ∙ c .if1 .left))
+    ran (run-inputs N st ins outs (sym (c .before .before .load-row-by .ensures .0) ∙ c .if1 .left))
 
 pub run-opened-spec : {M : Type 1} → statement M
 run-opened-spec =
     tie.close
     (tie.spec
-    slice-aggregate-load-row
-    load-row-requires
-    count-row-requires
+    slice-aggregate-load-row-by
+    load-row-by-requires
+    count-row-by-requires
     mul-if2
-    slice-aggregate-load-row-2
-    load-row-requires-2
+    slice-aggregate-load-row-by-2
+    load-row-by-requires-2
     slice-aggregate-evaluate
     evaluate-requires
     slice-aggregate-store-outputs

@@ -3,6 +3,7 @@ use mathlib.Core.Path.{sym, ap, subst, _∙_}
 use mathlib.Core.List.{List}
 use Prim.Native.Nat.{ℕ, _+_, _-_, _≤_}
 use native.Mathlib.Omega.{arith}
+use Rattle.lists.specs.BelowLaws.{countBelow-le}
 use lib.ListN.{length}
 use borrow.Author.Needs.{needs}
 use Rattle.netlist.specs.Net.{elementAt, size}
@@ -18,52 +19,50 @@ use Rattle.run.proofs.store_reset.Statement.{statement}
 use Rattle.run.proofs.store_reset.Tie as tie
 
 abbrev Inv-loop : tie.InvT-loop
-Inv-loop file tables nodes state₀ at₀ v₀ state at v = (v ≤ length nodes) × Filling (rowTest State (netIn file tables nodes)) (λ u. holds-first (elementAt (netIn file tables nodes) u)) (size (netIn file tables nodes)) state₀ state v at
+Inv-loop file tables nodes state₀ codes sources at₀ v₀ state at v = (v ≤ length nodes) × Filling (rowTest State (netIn file tables nodes)) (λ u. holds-first (elementAt (netIn file tables nodes) u)) (size (netIn file tables nodes)) state₀ state v at
 
 abbrev μ-loop : tie.MeasureT-loop
-μ-loop file tables nodes state₀ at₀ v₀ state at v = length nodes - v
+μ-loop file tables nodes state₀ codes sources at₀ v₀ state at v = length nodes - v
 
 loop-holds : tie.Need-loop-holds Inv-loop μ-loop
 loop-holds c =
-    let a = c .before .before .before .before .args in
+    let a = c .before .before .before .before .before .before .args in
     let s = a .file .now in
     let ts = a .tables .now in
     let ns = a .nodes .now in
     let N = netIn s ts ns in
-    (omega arith, fill-none (row-length N State (a .state .now) (c .before .before .before .before .pre .1)))
+    (omega arith, fill-none (row-length N State (a .state .now) (c .before .before .before .before .before .before .pre .1)))
 
-in-row-requires : tie.Need-in-row-requires Inv-loop μ-loop
-in-row-requires c κs = (c .before .before .before .before .before .before .pre .0, c .loop-test .taken)
+in-row-by-requires : tie.Need-in-row-by-requires Inv-loop μ-loop
+in-row-by-requires c κs = (c .before .before .before .before .before .before .before .before .pre .0, c .loop-test .taken, c .before .before .before .before .before .before .before .before .pre .2)
 
 node-requires : tie.Need-node-requires Inv-loop μ-loop
-node-requires c κs = (c .before .before .before .before .before .before .before .before .pre .0, c .before .before .loop-test .taken)
+node-requires c κs = (c .before .before .before .before .before .before .before .before .before .before .pre .0, c .before .before .loop-test .taken)
 
 reset-word-requires : tie.Need-reset-word-requires Inv-loop μ-loop
 reset-word-requires c κs = search needs
 
 put-word-requires : tie.Need-put-word-requires Inv-loop μ-loop
 put-word-requires c κs =
-    let a = c .before .before .before .before .before .before .before .before .before .before .before .args in
+    let a = c .before .before .before .before .before .before .before .before .before .before .before .before .before .args in
     let s = a .file .now in
     let ts = a .tables .now in
     let ns = a .nodes .now in
-    fill-room (c .before .before .before .before .before .before .loop .inv .1) (sym (c .before .before .before .before .in-row .ensures) ∙ c .before .before .before .if1 .taken) (let z = size-in s ts ns in omega (arith, c .before .before .before .before .before .loop-test .taken))
+    fill-room (c .before .before .before .before .before .before .loop .inv .1) (sym (c .before .before .before .before .in-row-by .ensures) ∙ c .before .before .before .if1 .taken) (let z = size-in s ts ns in omega (arith, c .before .before .before .before .before .loop-test .taken))
 
 add-at : tie.Need-add-at Inv-loop μ-loop
 add-at c =
-    let a = c .before .before .before .before .before .before .before .before .before .before .before .before .before .before .args in
-    let s = a .file .now in
-    let ts = a .tables .now in
-    let ns = a .nodes .now in
-    omega (arith, fill-room (c .before .before .before .before .before .before .before .before .before .loop .inv .1) (sym (c .before .before .before .before .before .before .before .in-row .ensures) ∙ c .before .before .before .before .before .before .if1 .taken) (let z = size-in s ts ns in omega (arith, c .before .before .before .before .before .before .before .before .loop-test .taken)))
+    let a = c .before .before .before .before .before .before .before .before .before .before .before .before .before .before .before .before .args in
+    let N = netIn (a .file .now) (a .tables .now) (a .nodes .now) in
+    omega (arith, c .before .before .before .before .before .before .before .before .before .loop .inv .1 .written, countBelow-le (rowTest State N) (c .before .before .before .before .before .before .before .before .before .loop .v), c .before .before .before .before .before .before .before .before .loop-test .taken, c .before .before .before .before .before .before .before .before .before .before .before .before .before .before .before .before .pre .0 .few-nodes)
 
 add-v : tie.Need-add-v Inv-loop μ-loop
 add-v c =
-    let a = c .before .before .before .before .before .before .before .before .before .before .before .before .before .before .args in
+    let a = c .before .before .before .before .before .before .before .before .before .before .before .before .before .before .before .before .args in
     let s = a .file .now in
     let ts = a .tables .now in
     let ns = a .nodes .now in
-    omega (arith, fill-room (c .before .before .before .before .before .before .before .before .before .loop .inv .1) (sym (c .before .before .before .before .before .before .before .in-row .ensures) ∙ c .before .before .before .before .before .before .if1 .taken) (let z = size-in s ts ns in omega (arith, c .before .before .before .before .before .before .before .before .loop-test .taken)))
+    omega (arith, fill-room (c .before .before .before .before .before .before .before .before .before .loop .inv .1) (sym (c .before .before .before .before .before .before .before .in-row-by .ensures) ∙ c .before .before .before .before .before .before .if1 .taken) (let z = size-in s ts ns in omega (arith, c .before .before .before .before .before .before .before .before .loop-test .taken)))
 
 loop-less : tie.Need-loop-less Inv-loop μ-loop
 loop-less c = omega arith
@@ -71,12 +70,12 @@ loop-less c = omega arith
 loop-again : tie.Need-loop-again Inv-loop μ-loop
 unfolding elementAt
 loop-again c =
-    let a = c .before .before .before .before .before .before .before .before .before .before .before .before .before .before .args in
+    let a = c .before .before .before .before .before .before .before .before .before .before .before .before .before .before .before .before .args in
     let s = a .file .now in
     let ts = a .tables .now in
     let ns = a .nodes .now in
     let N = netIn s ts ns in
-    let more = fill-put (c .before .before .before .before .before .before .before .before .before .loop .inv .1) (sym (c .before .before .before .before .before .before .before .in-row .ensures) ∙ c .before .before .before .before .before .before .if1 .taken) (let z = size-in s ts ns in omega (arith, c .before .before .before .before .before .before .before .before .loop-test .taken)) (c .before .before .before .reset-word .result) (c .before .before .before .reset-word .ensures ∙ ap (λ (x : Node). holds-first (x .element)) (c .before .before .before .before .before .node .ensures)) in
+    let more = fill-put (c .before .before .before .before .before .before .before .before .before .loop .inv .1) (sym (c .before .before .before .before .before .before .before .in-row-by .ensures) ∙ c .before .before .before .before .before .before .if1 .taken) (let z = size-in s ts ns in omega (arith, c .before .before .before .before .before .before .before .before .loop-test .taken)) (c .before .before .before .reset-word .result) (c .before .before .before .reset-word .ensures ∙ ap (λ (x : Node). holds-first (x .element)) (c .before .before .before .before .before .node .ensures)) in
     (omega arith, subst (λ (l : List ℕ). Filling (rowTest State N) (λ u. holds-first (elementAt N u)) (size N) (a .state .now) l (c .before .before .before .before .before .before .before .before .before .loop .v + 1) (c .before .before .before .before .before .before .before .before .before .loop .at + 2)) (sym (c .before .before .put-word .ensures)) more)
 
 add-v-2 : tie.Need-add-v-2 Inv-loop μ-loop
@@ -86,7 +85,7 @@ loop-less-2 : tie.Need-loop-less-2 Inv-loop μ-loop
 loop-less-2 c = omega arith
 
 loop-again-2 : tie.Need-loop-again-2 Inv-loop μ-loop
-loop-again-2 c = (omega arith, fill-skip (c .before .before .before .loop .inv .1) (sym (c .before .in-row .ensures) ∙ c .if1 .left))
+loop-again-2 c = (omega arith, fill-skip (c .before .before .before .loop .inv .1) (sym (c .before .in-row-by .ensures) ∙ c .if1 .left))
 
 same-length : tie.Need-same-length Inv-loop μ-loop
 same-length c = fill-kept (c .before .loop .inv .1)
@@ -94,7 +93,7 @@ same-length c = fill-kept (c .before .loop .inv .1)
 returns : tie.Need-returns Inv-loop μ-loop
 unfolding resetState
 returns c =
-    let a = c .before .before .before .before .before .before .args in
+    let a = c .before .before .before .before .before .before .before .before .args in
     let s = a .file .now in
     let ts = a .tables .now in
     let ns = a .nodes .now in
@@ -107,7 +106,7 @@ store-reset-spec =
     Inv-loop
     μ-loop
     loop-holds
-    in-row-requires
+    in-row-by-requires
     node-requires
     reset-word-requires
     put-word-requires

@@ -33,14 +33,14 @@ add-place-2 c =
     let s = c .before .before .before .before .args .file .now in
     let at = c .before .before .before .before .args .at in
     let p = c .before .before .before .before .pre in
-    omega (arith, file.code-place s at p _ (c .of-gate2 .ensures))
+    omega (arith, file.code-place s at p _ (c .of-gate2 .ensures .0))
 
 shared-slice-read-wide8 : tie.Need-shared-slice-read-wide8
 shared-slice-read-wide8 c =
     let s = c .before .before .before .before .before .args .file .now in
     let at = c .before .before .before .before .before .args .at in
     let p = c .before .before .before .before .before .pre in
-    file.code-place s at p _ (c .before .of-gate2 .ensures)
+    file.code-place s at p _ (c .before .of-gate2 .ensures .0)
 
 wide8-requires : tie.Need-wide8-requires
 wide8-requires c κs = search needs
@@ -50,14 +50,14 @@ add-result c =
     let s = c .before .before .before .before .before .before .args .file .now in
     let at = c .before .before .before .before .before .before .args .at in
     let p = c .before .before .before .before .before .before .pre in
-    omega (arith, c .wide8 .ensures .0, code-few (nodeIn s at .element), file.code-in s at p (c .before .before .before .of-gate .result) (c .before .before .of-gate2 .result) (c .before .before .before .of-gate .ensures) (c .before .before .of-gate2 .ensures))
+    omega (arith, c .wide8 .ensures .0, code-few (nodeIn s at .element), file.code-in s at p (c .before .before .before .of-gate .result) (c .before .before .of-gate2 .result) (c .before .before .before .of-gate .ensures .0) (c .before .before .of-gate2 .ensures .0))
 
 returns : tie.Need-returns
 returns c =
     let s = c .before .before .before .before .before .before .args .file .now in
     let at = c .before .before .before .before .before .before .args .at in
     let p = c .before .before .before .before .before .before .pre in
-    ap (c .before .before .before .of-gate .result +_) (c .wide8 .ensures .0) ∙ file.code-in s at p (c .before .before .before .of-gate .result) (c .before .before .of-gate2 .result) (c .before .before .before .of-gate .ensures) (c .before .before .of-gate2 .ensures)
+    ap (c .before .before .before .of-gate .result +_) (c .wide8 .ensures .0) ∙ file.code-in s at p (c .before .before .before .of-gate .result) (c .before .before .of-gate2 .result) (c .before .before .before .of-gate .ensures .0) (c .before .before .of-gate2 .ensures .0)
 
 pub code-at-spec : {M : Type 1} → statement M
 code-at-spec =
