@@ -5,7 +5,6 @@ mod depth_first;
 use areas::flag_at;
 use areas::put_flag;
 use areas::put_number;
-use columns::fill_columns;
 use depth_first::walk_all;
 use index::wide;
 use netlist::Element;
@@ -255,37 +254,5 @@ pub fn order_with_hint(
         placed,
         codes,
         sources,
-    )
-}
-
-// The same for whoever needs no hint and has no columns.
-pub fn order_nodes(
-    file: &[u8],
-    tables: &[u16],
-    nodes: &[u16],
-    steps: Steps,
-    flags: &mut [u8],
-    order: &mut [u16],
-) -> usize
-    requires { ⌜ Found (now file) (now tables) (now nodes) × Sourced (netIn (now file) (now tables) (now nodes))
-        × Placed (classOf steps) (netIn (now file) (now tables) (now nodes)) (now flags) (now order) 0 ⌝ }
-    ensures { λ r. ⌜ Placed (classOf steps) (netIn (now (file .entry)) (now (tables .entry)) (now (nodes .entry))) (now (flags .exit)) (now (order .exit)) r
-        × Waiting (ready (classOf steps) (netIn (now (file .entry)) (now (tables .entry)) (now (nodes .entry)))) (now (flags .exit)) (length (now (nodes .entry))) ⌝ }
-{
-    let mut codes = [0u8; 1024];
-    let mut widths = [0u8; 1024];
-    let mut sources = [0u16; 3072];
-    fill_columns(file, tables, nodes, &mut codes, &mut widths, &mut sources);
-    let mut hint = [0u16; 1024];
-    order_with_hint(
-        file,
-        tables,
-        nodes,
-        steps,
-        flags,
-        order,
-        &mut hint,
-        &codes,
-        &sources,
     )
 }
