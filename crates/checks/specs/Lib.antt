@@ -1,2 +1,4 @@
 pub mod Open
 pub mod Services
+pub mod Opens
+pub mod Serves

@@ -69,7 +69,7 @@ sourcesByCode = 0 ∷ 1 ∷ 1 ∷ 1 ∷ 1 ∷ operandCounts
 abbrev pub clockByCode : List ℕ
 clockByCode = 0 ∷ 1 ∷ 0 ∷ 1 ∷ 0 ∷ operandCounts
 
-op-counts : (o : Op) → getD operandCounts (opNumber o) 0 ≡ operands (Gate o)
+pub op-counts : (o : Op) → getD operandCounts (opNumber o) 0 ≡ operands (Gate o)
 op-counts (Constant v) = refl
 op-counts Not = refl
 op-counts And = refl

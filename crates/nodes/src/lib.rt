@@ -20,7 +20,7 @@ ghost use Rattle.words.specs.Words.{word};
 ghost use Rattle.words.specs.Gates.{operandsOf};
 ghost use Rattle.netlist.specs.Net.{operands};
 ghost use Rattle.nodes.specs.Code.{sourcesByCode, clockByCode};
-ghost use Rattle.netlist.specs.NodeField.{gateLength, plainOp, opRead, kindRead, elementRead, nodeRead, sourcesFrom, firstSource};
+ghost use Rattle.netlist.specs.NodeField.{gateLength, opNumber, plainOp, opRead, kindRead, elementRead, nodeRead, sourcesFrom, firstSource};
 
 // The length of a gate's content.
 fn gate_len(op: usize) -> usize
@@ -159,24 +159,31 @@ fn element_of(s: &[u8]) -> ElementRead
     element_by(s, s[0])
 }
 
-// The number of sources of an operation.
-fn op_sources(op: Op) -> usize
-    ensures { λ r. ⌜ r ≡ operandsOf op ⌝ }
+// The number of an operation.
+fn op_index(op: Op) -> usize
+    ensures { λ r. ⌜ (r ≡ opNumber op) × (r < 12) ⌝ }
 {
     match op {
         Op::Constant(_) => 0,
         Op::Not => 1,
         Op::And => 2,
-        Op::Or => 2,
-        Op::Xor => 2,
-        Op::Add => 2,
-        Op::Subtract => 2,
-        Op::Equal => 2,
-        Op::Less => 2,
-        Op::Choose => 3,
-        Op::Part(_) => 1,
-        Op::Join => 2,
+        Op::Or => 3,
+        Op::Xor => 4,
+        Op::Add => 5,
+        Op::Subtract => 6,
+        Op::Equal => 7,
+        Op::Less => 8,
+        Op::Choose => 9,
+        Op::Part(_) => 10,
+        Op::Join => 11,
     }
+}
+
+// The number of sources of an operation, by the table of twelve.
+fn op_sources(op: Op) -> usize
+    ensures { λ r. ⌜ r ≡ operandsOf op ⌝ }
+{
+    operand_count(op_index(op))
 }
 
 // The number of sources of an element.

@@ -25,7 +25,7 @@ use Rattle.netlist.specs.declared.Scanned.{Scanned}
 use Rattle.netlist.specs.declared.Scanned.the-variants.{Fields}
 use Rattle.columns.specs.Columns.{Columns}
 use Rattle.checks.specs.Open.{Open, Columned, columned}
-use Rattle.checks.proofs.Opens.{decoded-as}
+use Rattle.checks.specs.Opens.{decoded-as}
 use Rattle.behaviour.specs.Run.{zeroWord}
 use Rattle.retiming.specs.Leads.{closedDebt}
 use Rattle.retiming.specs.Rewrite.{places, nodeOf, timing, rewrittenWith, rewritten}

@@ -18,7 +18,7 @@ use Rattle.order.specs.Order.{Complete}
 use Rattle.behaviour.specs.Service.{resetNet, resetAfter, resetDecoded, resetFile, runNet, runAfter, runDecoded, runFile}
 use Rattle.columns.specs.Columns.{Columns, Widths}
 use Rattle.checks.specs.Open.{Open, Opened, Columned, columned}
-use Rattle.checks.proofs.Opens.{decoded-as, opened-fields}
+use Rattle.checks.specs.Opens.{decoded-as, opened-fields}
 
 -- ---- a file that is refused
 

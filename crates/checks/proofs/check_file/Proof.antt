@@ -1,6 +1,6 @@
 -- What opening tells, as an answer.
 use borrow.Author.Needs.{needs}
-use Rattle.checks.proofs.Opens.{opened-refused, opened-fields, check-refused, check-accepted}
+use Rattle.checks.specs.Opens.{opened-refused, opened-fields, check-refused, check-accepted}
 use Rattle.checks.proofs.check_file.Statement.{statement}
 use Rattle.checks.proofs.check_file.Tie as tie
 

@@ -3,7 +3,7 @@ use mathlib.Core.Path.{sym, _∙_}
 use native.Mathlib.Omega.{arith}
 use borrow.Author.Needs.{needs}
 use Rattle.checks.specs.Open.{turned-away, taken, no-columns, columned}
-use Rattle.checks.proofs.Opens.{scan-refused, fields-scanned, fields-room, fields-found, judged-by}
+use Rattle.checks.specs.Opens.{scan-refused, fields-scanned, fields-room, fields-found, judged-by}
 use lib.Seq.{length-take-le}
 use Rattle.checks.proofs.open_columns.Statement.{statement}
 use Rattle.checks.proofs.open_columns.Tie as tie

@@ -2,8 +2,8 @@
 use native.Mathlib.Omega.{arith}
 use borrow.Author.Needs.{needs}
 use Rattle.checks.specs.Open.{taken}
-use Rattle.checks.proofs.Opens.{opened-refused, opened-fields}
-use Rattle.checks.proofs.Serves.{node-refused, tables-length, nodes-length, index-found, served-node, no-node}
+use Rattle.checks.specs.Opens.{opened-refused, opened-fields}
+use Rattle.checks.specs.Serves.{node-refused, tables-length, nodes-length, index-found, served-node, no-node}
 use Rattle.checks.proofs.read_node.Statement.{statement}
 use Rattle.checks.proofs.read_node.Tie as tie
 

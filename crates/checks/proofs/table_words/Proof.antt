@@ -3,8 +3,8 @@ use mathlib.Core.Path.{_∙_}
 use native.Mathlib.Omega.{arith}
 use borrow.Author.Needs.{needs}
 use Rattle.checks.specs.Open.{taken}
-use Rattle.checks.proofs.Opens.{opened-refused, opened-fields}
-use Rattle.checks.proofs.Serves.{words-refused, table-there, served-words, no-words}
+use Rattle.checks.specs.Opens.{opened-refused, opened-fields}
+use Rattle.checks.specs.Serves.{words-refused, table-there, served-words, no-words}
 use Rattle.checks.proofs.table_words.Statement.{statement}
 use Rattle.checks.proofs.table_words.Tie as tie
 

@@ -2,8 +2,8 @@
 use mathlib.Core.Path.{_∙_}
 use native.Mathlib.Omega.{arith}
 use borrow.Author.Needs.{needs}
-use Rattle.checks.proofs.Opens.{opened-refused, opened-fields}
-use Rattle.checks.proofs.Serves.{tables-length, nodes-length, index-found}
+use Rattle.checks.specs.Opens.{opened-refused, opened-fields}
+use Rattle.checks.specs.Serves.{tables-length, nodes-length, index-found}
 use Rattle.rewriter.specs.Rewriting.{rewrote, file-refused, file-taken, tables-came, net-formed, columns-of}
 use Rattle.rewriter.proofs.rewrite_file.Statement.{statement}
 use Rattle.rewriter.proofs.rewrite_file.Tie as tie

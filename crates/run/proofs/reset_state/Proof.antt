@@ -1,8 +1,8 @@
 -- What opening tells, and the reset over the netlist.
 use mathlib.Core.Path.{_∙_}
 use borrow.Author.Needs.{needs}
-use Rattle.checks.proofs.Opens.{opened-refused, opened-fields}
-use Rattle.checks.proofs.Serves.{tables-length, nodes-length, index-found}
+use Rattle.checks.specs.Opens.{opened-refused, opened-fields}
+use Rattle.checks.specs.Serves.{tables-length, nodes-length, index-found}
 use Rattle.run.proofs.Outcomes.{filled}
 use Rattle.run.proofs.Opened.{reset-turned-away, reset-taken, columns-held}
 use Rattle.run.proofs.reset_state.Statement.{statement}

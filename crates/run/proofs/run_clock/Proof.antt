@@ -2,8 +2,8 @@
 use mathlib.Core.Path.{_∙_}
 use native.Mathlib.Omega.{arith}
 use borrow.Author.Needs.{needs}
-use Rattle.checks.proofs.Opens.{opened-refused, opened-fields}
-use Rattle.checks.proofs.Serves.{tables-length, nodes-length, index-found}
+use Rattle.checks.specs.Opens.{opened-refused, opened-fields}
+use Rattle.checks.specs.Serves.{tables-length, nodes-length, index-found}
 use Rattle.run.proofs.Outcomes.{ran}
 use Rattle.run.proofs.Opened.{run-turned-away, net-ordered, net-formed, run-taken, columns-held}
 use Rattle.run.proofs.run_clock.Statement.{statement}

@@ -27,7 +27,7 @@ use Rattle.codec.specs.TableCame.{table-as-it-came}
 use Rattle.checks.specs.Open.{Open, Opened}
 use Rattle.checks.specs.Services.{nodeOfNet, nodeAfter, nodeDecoded, nodeOfFile, wordsOfNet, wordsAfter, wordsDecoded, wordsOfFile}
 use Rattle.checks.specs.declared.NodeAnswer.{NodeAnswer}
-use Rattle.checks.proofs.Opens.{decoded-as, opened-fields}
+use Rattle.checks.specs.Opens.{decoded-as, opened-fields}
 
 -- ---- a node
 
