@@ -1,2 +1,3 @@
+pub mod Back
 pub mod Wanted
 pub mod ZeroRun

@@ -117,7 +117,7 @@ input-gives M w ws i d t (Clocked m r) h = absurd (false≢true h)
 input-gives M w ws i d t (Gate o) h = absurd (false≢true h)
 
 module _ (N : Net) (wf : WellFormed N) where
-  behaves : Behaves N (λ t port. getD [] port 0) (zeroWord N)
+  pub behaves : Behaves N (λ t port. getD [] port 0) (zeroWord N)
   unfolding zeroWord
   behaves = the-run-behaves N (wf .sourced) (settles N wf) (λ t. [])
 

@@ -161,7 +161,7 @@ module _ (ends copied : List ℕ) (u k : ℕ) where
 
 -- ---- the reset words of a ROM, by its wires in a row
 
-module _ {N : Net} {ends froms clocks : List ℕ} {limit : ℕ} (copied : List ℕ) (w : WiredTo N ends froms clocks limit (3 * size N)) (made : Copied N copied) (small : size N ≤ 1024) (u : ℕ) (inside : u < size N) where
+module _ {N : Net} {ends froms clocks : List ℕ} (copied : List ℕ) (w : WiredTo N ends froms clocks (3 * size N)) (made : Copied N copied) (small : size N ≤ 1024) (u : ℕ) (inside : u < size N) where
   abbrev f : ℕ → List ℕ
   f = copiesOf N (timing N) (zeroWord N) u
 

@@ -34,27 +34,24 @@ reset-is N x p j =
 
 -- ---- the wires
 
-pub wired-whole : {N : Net} {ends froms clocks : List ℕ} {limit n : ℕ} → n ≡ size N → WiredTo N ends froms clocks limit (3 * n) → WiredTo N ends froms clocks limit (3 * size N)
-wired-whole {N} {ends} {froms} {clocks} {limit} e w = subst (λ (k : ℕ). WiredTo N ends froms clocks limit (3 * k)) e w
-
-module _ {N : Net} {leads roots passes ends froms clocks : List ℕ} {limit : ℕ} (ready : Ready N leads roots passes) (w : WiredTo N ends froms clocks limit (3 * size N)) where
+module _ {N : Net} {leads roots passes ends froms clocks : List ℕ} (ready : Ready N leads roots passes) (w : WiredTo N ends froms clocks (3 * size N)) where
   small : size N ≤ 1024
   small = ready .formed .fields .bounds .nodes
 
-  pub wires-of-nodes : length clocks ≡ 3072 → OfNodes N clocks froms limit
-  wires-of-nodes l k h b = ⊎-elim inside (λ y. absurd (omega (arith, w .ahead k y (omega arith) .never, w .few))) (lt-or-le k (3 * size N))
+  pub wires-of-nodes : length clocks ≡ 3072 → OfNodes N clocks froms
+  wires-of-nodes l k h b = ⊎-elim inside (λ y. absurd (omega (arith, w .ahead k y (omega arith) .never))) (lt-or-le k (3 * size N))
     where
       inside : k < 3 * size N → getD froms k 0 < size N
-      inside y = ⊎-elim wire (λ g. absurd (omega (arith, w .gaps k y g .never, w .few))) (true-or-false (wireAt N k))
+      inside y = ⊎-elim wire (λ g. absurd (omega (arith, w .gaps k y g .never))) (true-or-false (wireAt N k))
         where
           wire : wireAt N k ≡ true → getD froms k 0 < size N
           wire g = omega (arith, w .wires k y g .from, wire-inside N (ready .formed .sourced) k y g)
 
-  pub copies-made : {copied : List ℕ} → length clocks ≡ 3072 → Taken N clocks froms (replicate 3072 0) copied limit → Copied N copied
+  pub copies-made : {copied : List ℕ} → length clocks ≡ 3072 → Taken N clocks froms (replicate 3072 0) copied → Copied N copied
   unfolding copyOn lastClock
   copies-made {copied} l t k h g = ⊎-elim rom other (true-or-false (memoryAt N (root N (sourceOf N k))))
     where
-      y : Wired N ends froms clocks limit k
+      y : Wired N ends froms clocks k
       y = w .wires k h g
 
       rom : memoryAt N (root N (sourceOf N k)) ≡ true → getD copied k 0 ≡ copyOn N (timing N) (zeroWord N) (k / 3) (k % 3)
@@ -66,13 +63,13 @@ module _ {N : Net} {leads roots passes ends froms clocks : List ℕ} {limit : �
 
       other : memoryAt N (root N (sourceOf N k)) ≡ false → getD copied k 0 ≡ copyOn N (timing N) (zeroWord N) (k / 3) (k % 3)
       other m =
-          t .others k (omega (arith, y .other m, w .few)) ∙ getD-replicate 3072 k 0 0 (omega arith)
+          t .others k (omega (arith, y .other m)) ∙ getD-replicate 3072 k 0 0 (omega arith)
           ∙ sym (ap (λ (b : Bool). cond b (resetWord N (timing N) (zeroWord N) (k / 3) (k % 3) (countOn N (timing N) (zeroWord N) (k / 3) (k % 3))) 0) m)
 
   wants-made : (copied : List ℕ) → Copied N copied → Wants N ends copied
   wants-made copied made u h = all-wanted copied w made small u h
 
-  pub wants-taken : {copied : List ℕ} → length clocks ≡ 3072 → Taken N clocks froms (replicate 3072 0) copied limit → Wants N ends copied
+  pub wants-taken : {copied : List ℕ} → length clocks ≡ 3072 → Taken N clocks froms (replicate 3072 0) copied → Wants N ends copied
   wants-taken {copied} l t = wants-made copied (copies-made l t)
 
   -- ---- the entries
@@ -81,7 +78,7 @@ module _ {N : Net} {leads roots passes ends froms clocks : List ℕ} {limit : �
     pub entries-are : entries ≡ entryCount N
     entries-are = placed .exact few .0
 
-    pub planning : {copied : List ℕ} → length clocks ≡ 3072 → Taken N clocks froms (replicate 3072 0) copied limit → Planning N leads roots passes ends froms copied firsts
+    pub planning : {copied : List ℕ} → length clocks ≡ 3072 → Taken N clocks froms (replicate 3072 0) copied → Planning N leads roots passes ends froms copied firsts
     planning l t = record {
       ready = ready;
       ends-in = λ k h g. w .wires k h g .end;
@@ -103,8 +100,8 @@ module _ {N : Net} {leads roots passes ends froms clocks : List ℕ} {limit : �
       ahead = λ i l b. getD-replicate 1024 i 65535 0 b;
     }
 
-  -- the wire of a register is among those entered, and its clock below the limit
-  early-enough : (x c p j : ℕ) → Sound N (timing N) (zeroWord N) (Reg x c p j) → j + lead N x < limit
+  -- the wire of a register is among those entered, and its clock is one
+  early-enough : (x c p j : ℕ) → Sound N (timing N) (zeroWord N) (Reg x c p j) → j + lead N x < 65535
   unfolding wireAt lastClock
   early-enough x c p j (s, o, l) =
       let k : ℕ = 3 * x + p in
@@ -146,15 +143,15 @@ module _ {N : Net} {leads roots passes ends froms clocks : List ℕ} {limit : �
     reg-source i (Entry x c) (g, s) = absurd g
     reg-source i (Reg x c p j) ((g, g′, g″), (s, o, l)) = omega (arith, g, ready .formed .sourced x p (s .inside) o)
 
-    pub registers-of-nodes : length late ≡ 1024 → OfNodes N late owners limit
+    pub registers-of-nodes : length late ≡ 1024 → OfNodes N late owners
     registers-of-nodes l i h b =
-        ⊎-elim (λ y. absurd (omega (arith, d .never i y, w .few)))
-        (λ y. ⊎-elim (λ z. reg-source i (getD all i noPlace) (reg-held i y z)) (λ z. absurd (omega (arith, d .ahead i z (omega arith), w .few))) (lt-or-le i total))
+        ⊎-elim (λ y. absurd (omega (arith, d .never i y)))
+        (λ y. ⊎-elim (λ z. reg-source i (getD all i noPlace) (reg-held i y z)) (λ z. absurd (omega (arith, d .ahead i z (omega arith)))) (lt-or-le i total))
         (lt-or-le i (entryCount N))
 
-    module _ {made : List ℕ} (long : length late ≡ 1024) (t : Taken N late owners words made limit) where
+    module _ {made : List ℕ} (long : length late ≡ 1024) (t : Taken N late owners words made) where
       word-stays : (i : ℕ) → i < entryCount N → getD made i 0 ≡ getD words i 0
-      word-stays i h = t .others i (omega (arith, d .never i h, w .few))
+      word-stays i h = t .others i (omega (arith, d .never i h))
 
       entry-reads : (i p : ℕ) → i < entryCount N → p < operands (elementAt N (getD owners i 0))
           → getD sources (3 * i + p) 0 ≡ numberOf N (timing N) (zeroWord N) (along N (timing N) (zeroWord N) (getD owners i 0) (getD made i 0) p 0)

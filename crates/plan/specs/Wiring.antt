@@ -57,12 +57,12 @@ module _ (N : Net) where
   unfoldable pub lastClock : ℕ → ℕ
   lastClock k = countFrom N (readerOf k) (sourceOf k) + lead N (readerOf k)
 
-  module _ (ends froms clocks : List ℕ) (limit : ℕ) where
-    -- what three work areas hold of a wire: its root, its source, and where the root is a ROM the clock of its reset word; no clock asked for is beyond the limit
+  module _ (ends froms clocks : List ℕ) where
+    -- what three work areas hold of a wire: its root, its source, and where the root is a ROM the clock of its reset word
     pub record Wired (k : ℕ) : Type 0 where
       pub end : getD ends k 0 ≡ root N (sourceOf k)
       pub from : getD froms k 0 ≡ sourceOf k
-      pub early : lastClock k < limit
+      pub early : lastClock k < 65535
       pub rom : memoryAt N (root N (sourceOf k)) ≡ true → getD clocks k 0 ≡ lastClock k
       pub other : memoryAt N (root N (sourceOf k)) ≡ false → getD clocks k 0 ≡ 65535
 
@@ -73,7 +73,6 @@ module _ (N : Net) where
 
     -- the first k are entered
     pub record WiredTo (k : ℕ) : Type 0 where
-      pub few : limit ≤ 65535
       pub wires : (j : ℕ) → j < k → wireAt j ≡ true → Wired j
       pub gaps : (j : ℕ) → j < k → wireAt j ≡ false → Unwired j
       pub ahead : (j : ℕ) → k ≤ j → j < 3072 → Unwired j

@@ -3,15 +3,15 @@ use mathlib.Core.Path.{_≡_, refl, sym, ap, ap₂, subst, _∙_}
 use mathlib.Core.Logic.{_⊎_, inl, inr, ⊎-elim}
 use mathlib.Core.Bool.{Bool, true, false, cond, true≢false}
 use mathlib.Core.List.{List}
-use Prim.Native.Nat.{ℕ, suc, _+_, _-_, _*_, _/_, _%_, _≤_, _<_, max}
-use native.Mathlib.Nat.{max-le, le-refl}
+use Prim.Native.Nat.{ℕ, suc, _+_, _-_, _*_, _/_, _%_, _≤_, _<_}
+use native.Mathlib.Nat.{le-refl}
 use native.Mathlib.Omega.{arith}
 use lib.ListN.{length, getD, set, replicate, getD-replicate}
 use lib.Seq.{getD-set-same, getD-set-other}
 use lib.Dec.{eqb, ltb}
 use borrow.Author.Tests.{lt-ltb, le-ltb, ltb-true}
 use Rattle.lists.specs.Lists.{one, countBelow}
-use Rattle.lists.specs.BelowLaws.{lt-suc-split, countBelow-le, true-or-false}
+use Rattle.lists.specs.BelowLaws.{lt-suc-split, lt-or-le, countBelow-le, true-or-false}
 use Rattle.netlist.specs.declared.Element.{Element}
 use Rattle.netlist.specs.declared.Element.the-variants.{Input, Output, Register, Async, Clocked, Gate}
 use Rattle.netlist.specs.Net.{Net, size, elementAt, source, operands, isAsync, isMemory, isClocked, Sourced}
@@ -70,14 +70,13 @@ module _ {N : Net} {leads roots passes : List ℕ} (t : Ready N leads roots pass
 
 -- ---- one wire more
 
-module _ {N : Net} {ends froms clocks : List ℕ} {limit k : ℕ} (w : WiredTo N ends froms clocks limit k) where
-  -- there is none
-  pub wired-gap : k < 3072 → wireAt N k ≡ false → WiredTo N ends froms clocks limit (k + 1)
-  wired-gap h e = record {
-    few = w .few;
-    wires = λ j l g. ⊎-elim (λ a. w .wires j a g) (λ a. absurd (true≢false (sym g ∙ ap (wireAt N) a ∙ e))) (lt-suc-split (let b : j < suc k = omega arith in b));
-    gaps = λ j l g. ⊎-elim (λ a. w .gaps j a g) (λ a. w .ahead j (omega arith) (omega arith)) (lt-suc-split (let b : j < suc k = omega arith in b));
-    ahead = λ j l m. w .ahead j (omega arith) m;
+module _ {N : Net} {ends froms clocks : List ℕ} {k : ℕ} (w : WiredTo N ends froms clocks k) where
+  -- up to m there is none
+  pub wired-gap : (m : ℕ) → k ≤ m → m ≤ 3072 → ((j : ℕ) → k ≤ j → j < m → wireAt N j ≡ false) → WiredTo N ends froms clocks m
+  wired-gap m h b none = record {
+    wires = λ j l g. ⊎-elim (λ a. w .wires j a g) (λ a. absurd (true≢false (sym g ∙ none j a l))) (lt-or-le j k);
+    gaps = λ j l g. ⊎-elim (λ a. w .gaps j a g) (λ a. w .ahead j a (omega arith)) (lt-or-le j k);
+    ahead = λ j l d. w .ahead j (omega arith) d;
   }
 
   module _ (a : length ends ≡ 3072) (d : length clocks ≡ 3072) (h : k < 3072) {end clock at : ℕ} (g : wireAt N k ≡ true)
@@ -89,10 +88,7 @@ module _ {N : Net} {ends froms clocks : List ℕ} {limit k : ℕ} (w : WiredTo N
     abbrev clocks′ : List ℕ
     clocks′ = set clocks k at
 
-    abbrev limit′ : ℕ
-    limit′ = max limit (clock + 1)
-
-    here : Wired N ends′ froms clocks′ limit′ k
+    here : Wired N ends′ froms clocks′ k
     here = record {
       end = getD-set-same ends k end 0 (omega arith) ∙ e;
       from = f;
@@ -101,38 +97,38 @@ module _ {N : Net} {ends froms clocks : List ℕ} {limit k : ℕ} (w : WiredTo N
       other = λ m. getD-set-same clocks k at 0 (omega arith) ∙ r ∙ ap (λ (z : Bool). cond z clock 65535) m;
     }
 
-    still : (j : ℕ) → j < k → Wired N ends froms clocks limit j → Wired N ends′ froms clocks′ limit′ j
+    still : (j : ℕ) → j < k → Wired N ends froms clocks j → Wired N ends′ froms clocks′ j
     still j l y = record {
       end = getD-set-other ends k j end 0 (λ q. omega arith) ∙ y .end;
       from = y .from;
-      early = omega (arith, y .early);
+      early = y .early;
       rom = λ m. getD-set-other clocks k j at 0 (λ q. omega arith) ∙ y .rom m;
       other = λ m. getD-set-other clocks k j at 0 (λ q. omega arith) ∙ y .other m;
     }
 
-    none : (j : ℕ) → (j ≡ k → ⊥) → Unwired N ends froms clocks limit j → Unwired N ends′ froms clocks′ limit′ j
+    none : (j : ℕ) → (j ≡ k → ⊥) → Unwired N ends froms clocks j → Unwired N ends′ froms clocks′ j
     none j l y = record {
       end = getD-set-other ends k j end 0 l ∙ y .end;
       never = getD-set-other clocks k j at 0 l ∙ y .never;
     }
 
-    pub wired-more : WiredTo N ends′ froms clocks′ limit′ (k + 1)
+    pub wired-more : WiredTo N ends′ froms clocks′ (k + 1)
     wired-more = record {
-      few = max-le (w .few) (omega arith);
-      wires = λ j l q. ⊎-elim (λ y. still j y (w .wires j y q)) (λ y. subst (Wired N ends′ froms clocks′ limit′) (sym y) here) (lt-suc-split (let z : j < suc k = omega arith in z));
+      wires = λ j l q. ⊎-elim (λ y. still j y (w .wires j y q)) (λ y. subst (Wired N ends′ froms clocks′) (sym y) here) (lt-suc-split (let z : j < suc k = omega arith in z));
       gaps = λ j l q. ⊎-elim (λ y. none j (λ z. omega arith) (w .gaps j y q)) (λ y. absurd (true≢false (sym g ∙ ap (wireAt N) (sym y) ∙ q))) (lt-suc-split (let z : j < suc k = omega arith in z));
       ahead = λ j l m. none j (λ z. omega arith) (w .ahead j (omega arith) m);
     }
 
--- the same of equal work areas
-pub wired-as : {N : Net} {e e′ f c c′ : List ℕ} {l l′ k : ℕ} → e′ ≡ e → c′ ≡ c → l′ ≡ l → WiredTo N e f c l k → WiredTo N e′ f c′ l′ k
-wired-as {N} {e} {e′} {f} {c} {c′} {l} {l′} {k} p r s w =
-    subst (λ (y : List ℕ). WiredTo N y f c′ l′ k) (sym p) (subst (λ (y : List ℕ). WiredTo N e f y l′ k) (sym r) (subst (λ (y : ℕ). WiredTo N e f c y k) (sym s) w))
+-- the same of equal work areas, and of equal numbers
+pub wired-as : {N : Net} {e e′ f c c′ : List ℕ} {k : ℕ} → e′ ≡ e → c′ ≡ c → WiredTo N e f c k → WiredTo N e′ f c′ k
+wired-as {N} {e} {e′} {f} {c} {c′} {k} p r w = subst (λ (y : List ℕ). WiredTo N y f c′ k) (sym p) (subst (λ (y : List ℕ). WiredTo N e f y k) (sym r) w)
+
+pub wired-at : {N : Net} {e f c : List ℕ} {k m : ℕ} → k ≡ m → WiredTo N e f c k → WiredTo N e f c m
+wired-at {N} {e} {f} {c} p w = subst (WiredTo N e f c) p w
 
 -- at first there is none
-pub wired-none : (N : Net) (froms : List ℕ) → WiredTo N (replicate 3072 65535) froms (replicate 3072 65535) 0 0
+pub wired-none : (N : Net) (froms : List ℕ) → WiredTo N (replicate 3072 65535) froms (replicate 3072 65535) 0
 wired-none N froms = record {
-  few = omega arith;
   wires = λ j l g. absurd (omega arith);
   gaps = λ j l g. absurd (omega arith);
   ahead = λ j l m. record { end = getD-replicate 3072 j 65535 0 m; never = getD-replicate 3072 j 65535 0 m };

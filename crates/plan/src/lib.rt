@@ -50,7 +50,7 @@ pub fn make_plan(
     let mut clocks = [65535u16; 3072];
     let mut copied = [0u16; 3072];
     let mut firsts = [0u16; 1024];
-    let limit = enter_wires(
+    enter_wires(
         file,
         tables,
         nodes,
@@ -67,10 +67,13 @@ pub fn make_plan(
         tables,
         nodes,
         order,
-        limit,
+        roots,
+        passes,
         &clocks,
         reads,
         &mut copied,
+        codes,
+        reads,
     );
     let entries = place_entries(
         file,
@@ -112,6 +115,18 @@ pub fn make_plan(
     if 1024 < total {
         return Plan { entries, total };
     }
-    first_words(file, tables, nodes, order, limit, &late, owners, words);
+    first_words(
+        file,
+        tables,
+        nodes,
+        order,
+        roots,
+        passes,
+        &late,
+        owners,
+        words,
+        codes,
+        reads,
+    );
     Plan { entries, total }
 }

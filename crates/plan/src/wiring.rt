@@ -7,12 +7,12 @@ use index::wide;
 use nodes::code_sources;
 ghost use mathlib.Core.Path.{_≡_};
 ghost use mathlib.Core.Bool.{cond};
-ghost use Prim.Native.Nat.{_+_, _-_, _*_, _<_, _≤_, max};
+ghost use Prim.Native.Nat.{_+_, _-_, _*_, _<_, _≤_};
 ghost use lib.ListN.{length};
 ghost use Rattle.lists.specs.Lists.{one};
 ghost use lib.Dec.{eqb};
 ghost use Rattle.netlist.specs.declared.Element.{Element};
-ghost use Rattle.netlist.specs.Net.{isMemory};
+ghost use Rattle.netlist.specs.Net.{elementAt, isMemory};
 ghost use Rattle.nodes.specs.Code.{codeOf};
 ghost use Rattle.columns.specs.Columns.{Columns};
 ghost use Rattle.netlist.specs.ScanLaws.{Found};
@@ -24,12 +24,6 @@ fn minus(a: usize, b: usize) -> usize
     ensures { λ r. ⌜ r ≡ a - b ⌝ }
 {
     if a < b { 0 } else { a - b }
-}
-
-fn larger(a: usize, b: usize) -> usize
-    ensures { λ r. ⌜ r ≡ max a b ⌝ }
-{
-    if a < b { b } else { a }
 }
 
 // 1 for the code of a ROM.
@@ -78,7 +72,7 @@ fn rom_clock(code: usize, clock: u16) -> u16
     if memory_bit(code) == 1 { clock } else { 65535 }
 }
 
-// Enters wire k, where there is one; gives a bound of all clocks at which a word will be wanted.
+// Enters the wire to operand p of x.
 fn enter_wire(
     file: &[u8],
     tables: &[u16],
@@ -86,25 +80,64 @@ fn enter_wire(
     leads: &[u16],
     roots: &[u16],
     passes: &[u16],
-    k: usize,
+    x: usize,
+    p: usize,
     ends: &mut [u16],
     clocks: &mut [u16],
-    limit: usize,
     codes: &[u8],
     reads: &[u16],
-) -> usize
+)
     requires { ⌜ Found (now file) (now tables) (now nodes) × Ready (netIn (now file) (now tables) (now nodes)) (now leads) (now roots) (now passes)
         × Columns (netIn (now file) (now tables) (now nodes)) (now codes) (now reads) (length (now nodes))
-        × (k < 3 * length (now nodes)) × (length (now ends) ≡ 3072) × (length (now clocks) ≡ 3072)
-        × WiredTo (netIn (now file) (now tables) (now nodes)) (now ends) (now reads) (now clocks) limit k ⌝ }
-    ensures { λ r. ⌜ WiredTo (netIn (now (file .entry)) (now (tables .entry)) (now (nodes .entry))) (now (ends .exit)) (now (reads .entry)) (now (clocks .exit)) r (k + 1) ⌝ }
+        × (x < length (now nodes)) × (p < 3) × (p < wiresTo (elementAt (netIn (now file) (now tables) (now nodes)) x)) × (length (now ends) ≡ 3072) × (length (now clocks) ≡ 3072)
+        × WiredTo (netIn (now file) (now tables) (now nodes)) (now ends) (now reads) (now clocks) (3 * x + p) ⌝ }
+    ensures { λ _. ⌜ WiredTo (netIn (now (file .entry)) (now (tables .entry)) (now (nodes .entry))) (now (ends .exit)) (now (reads .entry)) (now (clocks .exit)) (3 * x + p + 1) ⌝ }
 {
-    let x = k / 3;
-    let p = k % 3;
-    if p < wires_to(code_of(codes, x)) {
-        let s = wide(number_at(reads, k));
-        let end = number_at(roots, s);
-        let clock = count_on(
+    let k = 3 * x + p;
+    let s = wide(number_at(reads, k));
+    let end = number_at(roots, s);
+    let clock = count_on(
+        file,
+        tables,
+        nodes,
+        leads,
+        roots,
+        passes,
+        x,
+        s,
+        codes,
+        reads,
+    )
+        + wide(number_at(leads, x));
+    let root = code_of(codes, wide(end));
+    put_number(ends, k, end);
+    put_number(clocks, k, rom_clock(root, clock as u16));
+}
+
+// Enters the wires that end at x.
+fn enter_node(
+    file: &[u8],
+    tables: &[u16],
+    nodes: &[u16],
+    leads: &[u16],
+    roots: &[u16],
+    passes: &[u16],
+    x: usize,
+    ends: &mut [u16],
+    clocks: &mut [u16],
+    codes: &[u8],
+    reads: &[u16],
+)
+    requires { ⌜ Found (now file) (now tables) (now nodes) × Ready (netIn (now file) (now tables) (now nodes)) (now leads) (now roots) (now passes)
+        × Columns (netIn (now file) (now tables) (now nodes)) (now codes) (now reads) (length (now nodes))
+        × (x < length (now nodes)) × (length (now ends) ≡ 3072) × (length (now clocks) ≡ 3072)
+        × WiredTo (netIn (now file) (now tables) (now nodes)) (now ends) (now reads) (now clocks) (3 * x) ⌝ }
+    ensures { λ _. ⌜ WiredTo (netIn (now (file .entry)) (now (tables .entry)) (now (nodes .entry))) (now (ends .exit)) (now (reads .entry)) (now (clocks .exit)) (3 * x + 3) ⌝ }
+{
+    let n = wires_to(code_of(codes, x));
+    let mut p: usize = 0;
+    while p < n {
+        enter_wire(
             file,
             tables,
             nodes,
@@ -112,17 +145,13 @@ fn enter_wire(
             roots,
             passes,
             x,
-            s,
+            p,
+            ends,
+            clocks,
             codes,
             reads,
-        )
-            + wide(number_at(leads, x));
-        let root = code_of(codes, wide(end));
-        put_number(ends, k, end);
-        put_number(clocks, k, rom_clock(root, clock as u16));
-        larger(limit, clock + 1)
-    } else {
-        limit
+        );
+        p = p + 1;
     }
 }
 
@@ -138,32 +167,28 @@ pub fn enter_wires(
     clocks: &mut [u16],
     codes: &[u8],
     reads: &[u16],
-) -> usize
+)
     requires { ⌜ Found (now file) (now tables) (now nodes) × Ready (netIn (now file) (now tables) (now nodes)) (now leads) (now roots) (now passes)
         × Columns (netIn (now file) (now tables) (now nodes)) (now codes) (now reads) (length (now nodes))
         × (length (now ends) ≡ 3072) × (length (now clocks) ≡ 3072)
-        × WiredTo (netIn (now file) (now tables) (now nodes)) (now ends) (now reads) (now clocks) 0 0 ⌝ }
-    ensures { λ r. ⌜ WiredTo (netIn (now (file .entry)) (now (tables .entry)) (now (nodes .entry))) (now (ends .exit)) (now (reads .entry)) (now (clocks .exit)) r (3 * length (now (nodes .entry))) ⌝ }
+        × WiredTo (netIn (now file) (now tables) (now nodes)) (now ends) (now reads) (now clocks) 0 ⌝ }
+    ensures { λ _. ⌜ WiredTo (netIn (now (file .entry)) (now (tables .entry)) (now (nodes .entry))) (now (ends .exit)) (now (reads .entry)) (now (clocks .exit)) (3 * length (now (nodes .entry))) ⌝ }
 {
-    let n = nodes.len();
-    let mut limit: usize = 0;
-    let mut k: usize = 0;
-    while k < 3 * n {
-        limit = enter_wire(
+    let mut x: usize = 0;
+    while x < nodes.len() {
+        enter_node(
             file,
             tables,
             nodes,
             leads,
             roots,
             passes,
-            k,
+            x,
             ends,
             clocks,
-            limit,
             codes,
             reads,
         );
-        k = k + 1;
+        x = x + 1;
     }
-    limit
 }
