@@ -1,5 +1,6 @@
 // The rewritten file: the head, the tables as they came, the planned nodes, the end.
 use areas::number_at;
+use columns::kinds::code_of;
 use index::node;
 use index::wide;
 use index::width;
@@ -7,20 +8,22 @@ use netlist::Element;
 use netlist::Node;
 use nodes::source_count;
 use words::word_at;
-use writer::content_length;
 use writer::put_node;
 use writer::put_table;
 ghost use mathlib.Core.Path.{_≡_};
 ghost use Prim.Native.Nat.{_+_, _≤_, _<_};
-ghost use lib.ListN.{length};
+ghost use lib.ListN.{length, getD};
 ghost use Rattle.netlist.specs.Net.{tableOf};
 ghost use Rattle.netlist.specs.ScanLaws.{Found};
 ghost use Rattle.netlist.specs.File.{netIn};
+ghost use Rattle.columns.specs.Columns.{Columns};
+ghost use Rattle.codec.specs.ContentLength.{contentLength};
 ghost use Rattle.retiming.specs.Rewrite.{newElement};
 ghost use Rattle.plan.specs.Plan.{Planned};
 ghost use Rattle.writer.specs.Written.{Puts};
 ghost use Rattle.rewriter.specs.Written.{newNode, nodesBefore, TablesCame, tablesBefore};
 ghost use Rattle.rewriter.specs.PlannedNode.{readBy};
+ghost use Rattle.rewriter.specs.Lengths.{restByCode};
 
 // What becomes of an element: a ROM is clocked, with a reset word.
 fn new_element(e: Element, word: u16) -> Element
@@ -85,6 +88,42 @@ fn planned_node(
     }
 }
 
+// How many bytes follow kind and width, by code, three bits for each.
+const REST: u64 = 1582040158690064;
+
+// How long the content of an old node is in the rewritten file, where its ROM is clocked.
+fn new_length(code: usize) -> usize
+    requires { ⌜ code < 17 ⌝ }
+    ensures { λ r. ⌜ (r ≡ 2 + getD restByCode code 0) × (r ≤ 9) ⌝ }
+{
+    2 + ((REST >> (3 * code)) % 8) as usize
+}
+
+// How long the content of the i-th node of the rewritten netlist is.
+fn planned_length(
+    file: &[u8],
+    tables: &[u16],
+    nodes: &[u16],
+    entries: usize,
+    total: usize,
+    owners: &[u16],
+    words: &[u16],
+    sources: &[u16],
+    i: usize,
+    codes: &[u8],
+    reads: &[u16],
+) -> usize
+    requires { ⌜ Found (now file) (now tables) (now nodes) × Planned (netIn (now file) (now tables) (now nodes)) (now owners) (now words) (now sources) entries total
+        × Columns (netIn (now file) (now tables) (now nodes)) (now codes) (now reads) (length (now nodes)) × (total ≤ 1024) × (i < total) ⌝ }
+    ensures { λ r. ⌜ (r ≡ contentLength (newNode (netIn (now (file .entry)) (now (tables .entry)) (now (nodes .entry))) i .element)) × (r ≤ 9) ⌝ }
+{
+    if i < entries {
+        new_length(code_of(codes, wide(number_at(owners, i))))
+    } else {
+        6
+    }
+}
+
 // How many bytes the planned nodes take.
 pub fn nodes_length(
     file: &[u8],
@@ -95,27 +134,31 @@ pub fn nodes_length(
     owners: &[u16],
     words: &[u16],
     sources: &[u16],
+    codes: &[u8],
+    reads: &[u16],
 ) -> usize
     requires { ⌜ Found (now file) (now tables) (now nodes) × Planned (netIn (now file) (now tables) (now nodes)) (now owners) (now words) (now sources) entries total
-        × (total ≤ 1024) ⌝ }
+        × Columns (netIn (now file) (now tables) (now nodes)) (now codes) (now reads) (length (now nodes)) × (total ≤ 1024) ⌝ }
     ensures { λ r. ⌜ (r ≡ length (nodesBefore (netIn (now (file .entry)) (now (tables .entry)) (now (nodes .entry))) total)) × (r ≤ 12288) ⌝ }
 {
     let mut sum: usize = 0;
     let mut i: usize = 0;
     while i < total {
-        let x = planned_node(
-            file,
-            tables,
-            nodes,
-            entries,
-            total,
-            owners,
-            words,
-            sources,
-            i,
-        );
-        let e = x.element;
-        sum = sum + 3 + content_length(e) as usize;
+        sum = sum
+            + 3
+            + planned_length(
+                file,
+                tables,
+                nodes,
+                entries,
+                total,
+                owners,
+                words,
+                sources,
+                i,
+                codes,
+                reads,
+            );
         i = i + 1;
     }
     sum

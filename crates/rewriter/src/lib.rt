@@ -43,15 +43,29 @@ fn write_planned(
     words: &[u16],
     sources: &[u16],
     out: &mut [u8],
+    codes: &[u8],
+    reads: &[u16],
 ) -> Answer
     requires { ⌜ Found (now file) (now tables) (now nodes) × TablesCame (now file) (now tables)
+        × Columns (netIn (now file) (now tables) (now nodes)) (now codes) (now reads) (length (now nodes))
         × Planned (netIn (now file) (now tables) (now nodes)) (now owners) (now words) (now sources) entries total × (total ≤ 1024) ⌝ }
     ensures { λ r. ⌜ (r ≡ written (encode (rewritten (netIn (now (file .entry)) (now (tables .entry)) (now (nodes .entry))))) (now (out .entry)) .answer)
         × (now (out .exit) ≡ written (encode (rewritten (netIn (now (file .entry)) (now (tables .entry)) (now (nodes .entry))))) (now (out .entry)) .out) ⌝ }
 {
     let length = 7
         + tables_length(file, tables, nodes)
-        + nodes_length(file, tables, nodes, entries, total, owners, words, sources);
+        + nodes_length(
+            file,
+            tables,
+            nodes,
+            entries,
+            total,
+            owners,
+            words,
+            sources,
+            codes,
+            reads,
+        );
     if out.len() < length {
         return Answer::Refused(14, 65535);
     }
@@ -126,6 +140,8 @@ fn rewrite_debtless(
         &words,
         &sources,
         out,
+        codes,
+        reads,
     )
 }
 

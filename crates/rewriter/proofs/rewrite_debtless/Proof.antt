@@ -50,7 +50,7 @@ slice-aggregate-write-planned-3 : tie.Need-slice-aggregate-write-planned-3
 slice-aggregate-write-planned-3 c = search needs
 
 write-planned-requires : tie.Need-write-planned-requires
-write-planned-requires c κs = (c .before .before .before .before .before .before .before .before .before .before .before .before .before .before .before .before .before .before .before .before .before .before .before .before .before .before .before .pre .0, c .before .before .before .before .before .before .before .before .before .before .before .before .before .before .before .before .before .before .before .before .before .before .before .before .before .before .before .pre .2, c .before .before .before .before .before .before .before .before .make-plan .ensures .exact (c .before .before .before .before .if1 .left), c .before .before .before .before .if1 .left)
+write-planned-requires c κs = (c .before .before .before .before .before .before .before .before .before .before .before .before .before .before .before .before .before .before .before .before .before .before .before .before .before .before .before .pre .0, c .before .before .before .before .before .before .before .before .before .before .before .before .before .before .before .before .before .before .before .before .before .before .before .before .before .before .before .pre .2, c .before .before .before .before .before .before .before .before .before .before .before .before .before .before .before .before .before .before .before .before .before .before .before .before .before .before .before .pre .6, c .before .before .before .before .before .before .before .before .make-plan .ensures .exact (c .before .before .before .before .if1 .left), c .before .before .before .before .if1 .left)
 
 same-length : tie.Need-same-length
 same-length c = search needs

@@ -27,11 +27,11 @@ add-length-2 : tie.Need-add-length-2
 add-length-2 c = search needs
 
 returns : tie.Need-returns
-returns c = let a = c .before .before .before .before .before .before .before .before .before .before .args in
+returns c = let a = c .before .before .before .before .before .before .before .before .before .before .before .before .args in
     let s = a .file .now in
     let ts = a .tables .now in
     let ns = a .nodes .now in
-    let e = file-is s ts ns (c .before .before .before .before .before .before .before .before .before .before .pre .2 .count) in
+    let e = file-is s ts ns (c .before .before .before .before .before .before .before .before .before .before .before .before .pre .3 .count) in
     rewrote (too-short (encode (rewritten (netIn s ts ns))) (a .out .now) (omega (arith, c .if1 .taken, c .before .before .tables-length .ensures .0, c .before .nodes-length .ensures .0, ap length e, file-length s ts ns (a .total))))
 
 put-head-requires : tie.Need-put-head-requires
@@ -50,11 +50,11 @@ same-length : tie.Need-same-length
 same-length c = search needs
 
 returns-2 : tie.Need-returns-2
-returns-2 c = let a = c .before .before .before .before .before .before .before .before .before .before .before .before .before .before .before .before .before .before .before .before .before .before .before .before .before .before .args in
+returns-2 c = let a = c .before .before .before .before .before .before .before .before .before .before .before .before .before .before .before .before .before .before .before .before .before .before .before .before .before .before .before .before .args in
     let s = a .file .now in
     let ts = a .tables .now in
     let ns = a .nodes .now in
-    let e = file-is s ts ns (c .before .before .before .before .before .before .before .before .before .before .before .before .before .before .before .before .before .before .before .before .before .before .before .before .before .before .pre .2 .count) in
+    let e = file-is s ts ns (c .before .before .before .before .before .before .before .before .before .before .before .before .before .before .before .before .before .before .before .before .before .before .before .before .before .before .before .before .pre .3 .count) in
     let n : 7 + c .before .before .before .before .before .before .before .before .before .before .before .before .before .before .before .before .before .before .tables-length .result + c .before .before .before .before .before .before .before .before .before .before .before .before .before .before .before .before .before .nodes-length .result ≡ length (encode (rewritten (netIn s ts ns))) = omega (arith, c .before .before .before .before .before .before .before .before .before .before .before .before .before .before .before .before .before .before .tables-length .ensures .0, c .before .before .before .before .before .before .before .before .before .before .before .before .before .before .before .before .before .nodes-length .ensures .0, ap length e, file-length s ts ns (a .total)) in
     let r = rewrote (long-enough (encode (rewritten (netIn s ts ns))) (a .out .now) (omega (arith, c .before .before .before .before .before .before .before .before .before .before .before .before .before .before .before .before .if1 .left, n))) in
     (ap Accepted n ∙ r .0, file-puts s ts ns (a .total) e (c .before .before .before .before .before .before .before .before .before .before .before .before .before .before .put-head .ensures) (c .before .before .before .before .before .before .before .before .before .before .put-tables .ensures) (c .before .before .before .before .before .before .put-nodes .ensures) (c .before .before .put-end .ensures) ∙ r .1)
