@@ -1,4 +1,6 @@
 // Checks 9 and 10: the lowest node that reaches itself, searched for only where the nodes cannot all be put in order.
+pub mod rings;
+
 use areas::flag_at;
 use areas::put_flag;
 use index::node;
