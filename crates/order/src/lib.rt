@@ -7,9 +7,7 @@ use areas::put_flag;
 use areas::put_number;
 use depth_first::walk_all;
 use index::wide;
-use netlist::Element;
 use nodes::code_in_clock;
-use nodes::source_count;
 ghost use mathlib.Core.Path.{_≡_};
 ghost use mathlib.Core.Bool.{true};
 ghost use Prim.Native.Nat.{_<_, _≤_};
@@ -28,44 +26,8 @@ pub enum Steps {
     InRegisters,
 }
 
-fn counted_in_clock(e: Element) -> usize
-    ensures { λ r. ⌜ r ≡ classOf Steps.InClock .of e ⌝ }
-{
-    match e {
-        Element::Input => 0,
-        Element::Output => 1,
-        Element::Register(_) => 0,
-        Element::Async(_) => 1,
-        Element::Clocked(_, _) => 0,
-        Element::Gate(_) => source_count(e),
-    }
-}
-
-fn counted_in_registers(e: Element) -> usize
-    ensures { λ r. ⌜ r ≡ classOf Steps.InRegisters .of e ⌝ }
-{
-    match e {
-        Element::Input => 0,
-        Element::Output => 0,
-        Element::Register(_) => 1,
-        Element::Async(_) => 0,
-        Element::Clocked(_, _) => 0,
-        Element::Gate(_) => 0,
-    }
-}
-
-// How many of an element's sources, from the first on, count.
-pub fn counted(e: Element, steps: Steps) -> usize
-    ensures { λ r. ⌜ r ≡ classOf steps .of e ⌝ }
-{
-    match steps {
-        Steps::InClock => counted_in_clock(e),
-        Steps::InRegisters => counted_in_registers(e),
-    }
-}
-
 // How many sources of node v, from the first on, count.
-fn count_at(
+pub fn count_at(
     file: &[u8],
     tables: &[u16],
     nodes: &[u16],
