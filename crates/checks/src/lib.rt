@@ -1,6 +1,7 @@
 // The reader's layer as run and rewriter see it: checks 1 to 10, a node by its number, a table's words.
 use columns::fill_columns;
 use cycles::lowest_cycle;
+use cycles::rings::lowest_ring;
 use index::node;
 use index::wide;
 use netlist::Answer;
@@ -51,16 +52,7 @@ fn cycles_verdict(
     if loop_node < n {
         return Verdict::Refuses(9, loop_node as u16);
     }
-    let mut spare = [0u16; 1024];
-    let ring_node = lowest_cycle(
-        file,
-        tables,
-        nodes,
-        Steps::InRegisters,
-        &mut spare,
-        codes,
-        sources,
-    );
+    let ring_node = lowest_ring(file, tables, nodes, codes, sources);
     if ring_node < n {
         return Verdict::Refuses(10, ring_node as u16);
     }

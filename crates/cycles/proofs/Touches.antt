@@ -1,27 +1,26 @@
 -- A try at one node, and a search from one start, over plain values. Assumes nothing.
-use mathlib.Core.Path.{_≡_, sym, ap, subst, _∙_}
-use mathlib.Core.Bool.{Bool, false, _||_}
+use mathlib.Core.Path.{_≡_, refl, sym, ap, subst, _∙_}
+use mathlib.Core.Bool.{false, _||_}
 use mathlib.Core.List.{List}
-use Prim.Native.Nat.{ℕ, _≤_, _<_}
+use Prim.Native.Nat.{ℕ, _+_, _*_, _≤_, _<_}
 use native.Mathlib.Omega.{arith}
 use lib.ListN.{getD, replicate}
 use lib.Dec.{eqb}
 use Rattle.lists.specs.Lists.{anyBelow}
 use Rattle.lists.specs.BelowLaws.{countBelow-le}
-use Rattle.netlist.specs.Net.{Class, Net, size, nodeAt, elementAt, source, Sourced}
+use Rattle.netlist.specs.Net.{Class, Net, size, elementAt, source, Sourced}
 use Rattle.netlist.specs.Reach.{reachesItself}
-use Rattle.netlist.specs.declared.Node.{Node}
+use Rattle.columns.specs.Columns.{Columns, source-is, any-same}
 use Rattle.order.specs.Pass.{on, Waiting, swept-rest}
 use Rattle.cycles.specs.Spread.{touches, Reached, ReachedPass, reached-none, start-missed}
 
 module _ (K : Class) (N : Net) where
-  touchesNode : ℕ → List ℕ → Node → Bool
-  touchesNode s marks x = anyBelow (K .of (x .element)) (λ p. eqb (getD (x .sources) p 0) s || on marks (getD (x .sources) p 0))
-
-  pub touches-is : (s : ℕ) (marks : List ℕ) (u : ℕ) (x : Node) → x ≡ nodeAt N u → (n : ℕ) → n ≡ K .of (x .element)
-      → anyBelow n (λ p. eqb (getD (x .sources) p 0) s || on marks (getD (x .sources) p 0)) ≡ touches K N s marks u
-  unfolding touchesNode elementAt source
-  touches-is s marks u x e n q = ap (λ (m : ℕ). anyBelow m (λ p. eqb (getD (x .sources) p 0) s || on marks (getD (x .sources) p 0))) q ∙ ap (touchesNode s marks) e
+  pub touches-is : {codes sources : List ℕ} {m : ℕ} → Columns N codes sources m → (s : ℕ) (marks : List ℕ) (u : ℕ) → u < m → (n : ℕ) → n ≡ K .of (elementAt N u) → n ≤ 3
+      → anyBelow n (λ p. eqb (getD sources (3 * u + p) 0) s || on marks (getD sources (3 * u + p) 0)) ≡ touches K N s marks u
+  touches-is {codes} {sources} t s marks u h n q l =
+      any-same n (λ p. eqb (getD sources (3 * u + p) 0) s || on marks (getD sources (3 * u + p) 0)) (λ p. eqb (source N u p) s || on marks (source N u p))
+      (λ p a. ap (λ (x : ℕ). eqb x s || on marks x) (source-is N t u p (3 * u + p) h (omega arith) refl))
+      ∙ ap (λ (k : ℕ). anyBelow k (λ p. eqb (source N u p) s || on marks (source N u p))) q
 
   pub reached-few : {s k : ℕ} {marks : List ℕ} → Reached K N s marks k → k ≤ size N
   reached-few {s} {k} {marks} r = subst (λ (m : ℕ). m ≤ size N) (r .count) (countBelow-le (λ u. on marks u) (size N))

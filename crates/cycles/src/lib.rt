@@ -1,10 +1,11 @@
 // Checks 9 and 10: the lowest node that reaches itself, searched for only where the nodes cannot all be put in order.
+pub mod rings;
+
 use areas::flag_at;
 use areas::put_flag;
-use index::node;
 use index::wide;
 use order::Steps;
-use order::counted;
+use order::count_at;
 use order::order_with_hint;
 ghost use mathlib.Core.Path.{_≡_};
 ghost use mathlib.Core.Bool.{_||_};
@@ -21,14 +22,14 @@ ghost use Rattle.order.specs.Pass.{on};
 ghost use Rattle.order.specs.Order.{classOf, Complete};
 ghost use Rattle.cycles.specs.Spread.{touches, Reached, ReachedOnce, ReachedPass};
 
-// Whether one of the first n sources is the start or is marked.
-fn any_touched(sources: [u16; 3], n: usize, s: usize, marks: &[u8]) -> bool
-    requires { ⌜ n ≤ 3 ⌝ }
-    ensures { λ r. ⌜ r ≡ anyBelow n (λ p. eqb (getD sources p 0) s || on (now (marks .entry)) (getD sources p 0)) ⌝ }
+// Whether one of the n sources from a place on is the start or is marked.
+fn any_touched(sources: &[u16], from: usize, n: usize, s: usize, marks: &[u8]) -> bool
+    requires { ⌜ from + n ≤ length (now sources) ⌝ }
+    ensures { λ r. ⌜ r ≡ anyBelow n (λ p. eqb (getD (now (sources .entry)) (from + p) 0) s || on (now (marks .entry)) (getD (now (sources .entry)) (from + p) 0)) ⌝ }
 {
     let mut p: usize = 0;
     while p < n {
-        let u = wide(sources[p]);
+        let u = wide(sources[from + p]);
         if u == s {
             return true;
         }
@@ -50,18 +51,19 @@ fn touch(
     u: usize,
     marks: &mut [u8],
     k: usize,
+    codes: &[u8],
+    sources: &[u16],
 ) -> usize
     requires { ⌜ Found (now file) (now tables) (now nodes) × Sourced (netIn (now file) (now tables) (now nodes)) × (u < length (now nodes)) × (k ≤ 1024)
-        × Reached (classOf steps) (netIn (now file) (now tables) (now nodes)) s (now marks) k ⌝ }
+        × Reached (classOf steps) (netIn (now file) (now tables) (now nodes)) s (now marks) k
+        × Columns (netIn (now file) (now tables) (now nodes)) (now codes) (now sources) (length (now nodes)) ⌝ }
     ensures { λ r. ⌜ ReachedOnce (classOf steps) (netIn (now (file .entry)) (now (tables .entry)) (now (nodes .entry))) s (now (marks .entry)) (now (marks .exit)) k r u ⌝ }
 {
     if 0 < flag_at(marks, u) {
         return k;
     }
-    let x = node(file, tables, nodes, u);
-    let e = x.element;
-    let sources = x.sources;
-    if any_touched(sources, counted(e, steps), s, marks) {
+    let n = count_at(file, tables, nodes, steps, u, codes, sources);
+    if any_touched(sources, 3 * u, n, s, marks) {
         put_flag(marks, u, 1);
         k + 1
     } else {
@@ -79,13 +81,16 @@ fn touch_if(
     u: usize,
     marks: &mut [u8],
     k: usize,
+    codes: &[u8],
+    sources: &[u16],
 ) -> usize
     requires { ⌜ Found (now file) (now tables) (now nodes) × Sourced (netIn (now file) (now tables) (now nodes)) × (k ≤ 1024)
-        × Reached (classOf steps) (netIn (now file) (now tables) (now nodes)) s (now marks) k ⌝ }
+        × Reached (classOf steps) (netIn (now file) (now tables) (now nodes)) s (now marks) k
+        × Columns (netIn (now file) (now tables) (now nodes)) (now codes) (now sources) (length (now nodes)) ⌝ }
     ensures { λ r. ⌜ (k ≤ r) × Reached (classOf steps) (netIn (now (file .entry)) (now (tables .entry)) (now (nodes .entry))) s (now (marks .exit)) r ⌝ }
 {
     if u < nodes.len() {
-        touch(file, tables, nodes, steps, s, u, marks, k)
+        touch(file, tables, nodes, steps, s, u, marks, k, codes, sources)
     } else {
         k
     }
@@ -100,15 +105,18 @@ fn spread(
     s: usize,
     marks: &mut [u8],
     start: usize,
+    codes: &[u8],
+    sources: &[u16],
 ) -> usize
     requires { ⌜ Found (now file) (now tables) (now nodes) × Sourced (netIn (now file) (now tables) (now nodes))
-        × Reached (classOf steps) (netIn (now file) (now tables) (now nodes)) s (now marks) start ⌝ }
+        × Reached (classOf steps) (netIn (now file) (now tables) (now nodes)) s (now marks) start
+        × Columns (netIn (now file) (now tables) (now nodes)) (now codes) (now sources) (length (now nodes)) ⌝ }
     ensures { λ r. ⌜ ReachedPass (classOf steps) (netIn (now (file .entry)) (now (tables .entry)) (now (nodes .entry))) s (now (marks .entry)) (now (marks .exit)) start r (length (now (nodes .entry))) ⌝ }
 {
     let mut k = start;
     let mut u: usize = 0;
     while u < nodes.len() {
-        k = touch(file, tables, nodes, steps, s, u, marks, k);
+        k = touch(file, tables, nodes, steps, s, u, marks, k, codes, sources);
         u = u + 1;
     }
     k
@@ -124,15 +132,29 @@ fn spread_by(
     hint: &[u16],
     marks: &mut [u8],
     start: usize,
+    codes: &[u8],
+    sources: &[u16],
 ) -> usize
     requires { ⌜ Found (now file) (now tables) (now nodes) × Sourced (netIn (now file) (now tables) (now nodes))
-        × Reached (classOf steps) (netIn (now file) (now tables) (now nodes)) s (now marks) start ⌝ }
+        × Reached (classOf steps) (netIn (now file) (now tables) (now nodes)) s (now marks) start
+        × Columns (netIn (now file) (now tables) (now nodes)) (now codes) (now sources) (length (now nodes)) ⌝ }
     ensures { λ r. ⌜ (start ≤ r) × Reached (classOf steps) (netIn (now (file .entry)) (now (tables .entry)) (now (nodes .entry))) s (now (marks .exit)) r ⌝ }
 {
     let mut k = start;
     let mut i: usize = 0;
     while i < hint.len() {
-        k = touch_if(file, tables, nodes, steps, s, wide(hint[i]), marks, k);
+        k = touch_if(
+            file,
+            tables,
+            nodes,
+            steps,
+            s,
+            wide(hint[i]),
+            marks,
+            k,
+            codes,
+            sources,
+        );
         i = i + 1;
     }
     k
@@ -149,8 +171,17 @@ fn clear(marks: &mut [u8])
 }
 
 // The search: from each node in turn rounds spread its mark until it comes back, which ends the search, or a round over all nodes changes nothing.
-fn lowest_on_cycle(file: &[u8], tables: &[u16], nodes: &[u16], steps: Steps, hint: &[u16]) -> usize
-    requires { ⌜ Found (now file) (now tables) (now nodes) × Sourced (netIn (now file) (now tables) (now nodes)) ⌝ }
+fn lowest_on_cycle(
+    file: &[u8],
+    tables: &[u16],
+    nodes: &[u16],
+    steps: Steps,
+    hint: &[u16],
+    codes: &[u8],
+    sources: &[u16],
+) -> usize
+    requires { ⌜ Found (now file) (now tables) (now nodes) × Sourced (netIn (now file) (now tables) (now nodes))
+        × Columns (netIn (now file) (now tables) (now nodes)) (now codes) (now sources) (length (now nodes)) ⌝ }
     ensures { λ r. ⌜ r ≡ lowest (length (now (nodes .entry))) (reachesItself (classOf steps) (netIn (now (file .entry)) (now (tables .entry)) (now (nodes .entry)))) ⌝ }
 {
     let n = nodes.len();
@@ -160,8 +191,29 @@ fn lowest_on_cycle(file: &[u8], tables: &[u16], nodes: &[u16], steps: Steps, hin
         clear(&mut marks);
         let mut marked: usize = 0;
         loop {
-            let near = spread_by(file, tables, nodes, steps, s, hint, &mut marks, marked);
-            let more = spread(file, tables, nodes, steps, s, &mut marks, near);
+            let near = spread_by(
+                file,
+                tables,
+                nodes,
+                steps,
+                s,
+                hint,
+                &mut marks,
+                marked,
+                codes,
+                sources,
+            );
+            let more = spread(
+                file,
+                tables,
+                nodes,
+                steps,
+                s,
+                &mut marks,
+                near,
+                codes,
+                sources,
+            );
             if 0 < flag_at(&marks, s) {
                 break 'search;
             }
@@ -206,5 +258,5 @@ pub fn lowest_cycle(
     if placed == nodes.len() {
         return placed;
     }
-    lowest_on_cycle(file, tables, nodes, steps, &hint)
+    lowest_on_cycle(file, tables, nodes, steps, &hint, codes, sources)
 }

@@ -40,6 +40,12 @@ module _ (K : Class) (N : Net) where
       all-same n (λ p. on flags (getD sources (3 * v + p) 0)) (λ p. on flags (source N v p)) (λ p a. ap (on flags) (source-is N t v p (3 * v + p) h (omega arith) refl))
       ∙ ap (λ (k : ℕ). allBelow k (λ p. on flags (source N v p))) q
 
+  -- a source that counts is a node
+  pub source-inside : {codes sources : List ℕ} {m : ℕ} → Columns N codes sources m → Sourced N → size N ≡ m → (v : ℕ) → v < m → (n : ℕ) → n ≡ K .of (elementAt N v) → n ≤ 3 → (p : ℕ) → p < n → getD sources (3 * v + p) 0 < m
+  unfolding Sourced
+  source-inside t sourced z v h n q l p a =
+      omega (arith, source-is N t v p (3 * v + p) h (omega arith) refl, sourced v p (omega arith) (omega (arith, K .few (elementAt N v))))
+
   pub placed-once : {flags order f o : List ℕ} {k v : ℕ} → Placed K N flags order k → Sourced N → v < size N → getD flags v 0 ≤ 0 → ready K N flags v ≡ true → f ≡ set flags v 1 → o ≡ set order k v → PlacedOnce K N flags f o k (k + 1) v
   placed-once {flags} {order} {f} {o} {k} {v} t sourced l off all p q =
       once-more (subst (λ (x : List ℕ). Placed K N x o (k + 1)) (sym p) (subst (λ (y : List ℕ). Placed K N (set flags v 1) y (k + 1)) (sym q) (placed-more K N t sourced v l (le-ltb 0 (getD flags v 0) off) all)))

@@ -1,12 +1,14 @@
 // A depth-first walk that proposes an order: down to what a node reads, back with the node placed. Nobody trusts it; it saves passes.
 use super::Steps;
 use super::count_at;
-use super::place;
+use super::first_waiting;
+use super::place_ready;
 use areas::flag_at;
 use areas::number_at;
 use areas::put_flag;
 use areas::put_number;
 use index::wide;
+ghost use mathlib.Core.Path.{_≡_};
 ghost use Prim.Native.Nat.{_+_, _<_, _≤_};
 ghost use lib.ListN.{length};
 ghost use Rattle.netlist.specs.Net.{Sourced};
@@ -22,29 +24,33 @@ pub struct Walk {
     pub noted: usize,
 }
 
-// The first source of v that counts and was not met yet, or the number of nodes.
+// The source u of v where it was not met yet, or the first that counts and was not, or the number of nodes.
 fn next_unmet(
     file: &[u8],
     tables: &[u16],
     nodes: &[u16],
     steps: Steps,
     v: usize,
+    u: usize,
     met: &[u8],
     codes: &[u8],
     sources: &[u16],
 ) -> usize
-    requires { ⌜ Found (now file) (now tables) (now nodes) × (v < length (now nodes))
+    requires { ⌜ Found (now file) (now tables) (now nodes) × (v < length (now nodes)) × (u < length (now nodes))
         × Columns (netIn (now file) (now tables) (now nodes)) (now codes) (now sources) (length (now nodes)) ⌝ }
     ensures { λ r. ⌜ r ≤ length (now (nodes .entry)) ⌝ }
 {
+    if flag_at(met, u) == 0 {
+        return u;
+    }
     let n = count_at(file, tables, nodes, steps, v, codes, sources);
     let from = 3 * v;
     let mut p: usize = 0;
     while p < n {
-        let u = wide(sources[from + p]);
-        if u < nodes.len() {
-            if flag_at(met, u) == 0 {
-                return u;
+        let other = wide(sources[from + p]);
+        if other < nodes.len() {
+            if flag_at(met, other) == 0 {
+                return other;
             }
         }
         p = p + 1;
@@ -52,7 +58,47 @@ fn next_unmet(
     nodes.len()
 }
 
-// One step of the walk: down to a source not met yet, or back, placing the node. The hint notes the nodes as the walk leaves them, placed or not.
+// Down from v, whose source u is not placed: to u or another source not met yet. Where all are met v is on a loop or behind one, and the walk leaves it unplaced.
+fn go_down(
+    file: &[u8],
+    tables: &[u16],
+    nodes: &[u16],
+    steps: Steps,
+    v: usize,
+    u: usize,
+    stack: &mut [u16],
+    met: &mut [u8],
+    hint: &mut [u16],
+    at: Walk,
+    codes: &[u8],
+    sources: &[u16],
+) -> Walk
+    requires { ⌜ Found (now file) (now tables) (now nodes) × (v < length (now nodes)) × (u < length (now nodes)) × (1 ≤ at .depth) × (at .depth ≤ 65535) × (at .noted ≤ 65535)
+        × Columns (netIn (now file) (now tables) (now nodes)) (now codes) (now sources) (length (now nodes)) ⌝ }
+    ensures { λ r. ⌜ (r .depth ≤ at .depth + 1) × (r .noted ≤ at .noted + 1) × (r .placed ≡ at .placed) ⌝ }
+{
+    let depth = at.depth;
+    let placed = at.placed;
+    let noted = at.noted;
+    let next = next_unmet(file, tables, nodes, steps, v, u, met, codes, sources);
+    if next < nodes.len() {
+        put_flag(met, next, 1);
+        put_number(stack, depth, next as u16);
+        return Walk {
+            depth: depth + 1,
+            placed,
+            noted,
+        };
+    }
+    put_number(hint, noted, v as u16);
+    Walk {
+        depth: depth - 1,
+        placed,
+        noted: noted + 1,
+    }
+}
+
+// One step of the walk: back from a node that is ready, with the node placed, or down. The hint notes the nodes as the walk leaves them, placed or not.
 fn walk_step(
     file: &[u8],
     tables: &[u16],
@@ -90,29 +136,25 @@ fn walk_step(
             noted,
         };
     }
-    let u = next_unmet(file, tables, nodes, steps, v, met, codes, sources);
+    let u = first_waiting(file, tables, nodes, steps, v, flags, codes, sources);
     if u < nodes.len() {
-        put_flag(met, u, 1);
-        put_number(stack, depth, u as u16);
-        return Walk {
-            depth: depth + 1,
-            placed,
-            noted,
-        };
+        return go_down(
+            file,
+            tables,
+            nodes,
+            steps,
+            v,
+            u,
+            stack,
+            met,
+            hint,
+            at,
+            codes,
+            sources,
+        );
     }
     put_number(hint, noted, v as u16);
-    let more = place(
-        file,
-        tables,
-        nodes,
-        steps,
-        v,
-        flags,
-        order,
-        placed,
-        codes,
-        sources,
-    );
+    let more = place_ready(file, tables, nodes, steps, v, flags, order, placed);
     Walk {
         depth: depth - 1,
         placed: more,
@@ -147,20 +189,10 @@ fn walk_from(
     put_flag(met, root, 1);
     let before = start.placed;
     let noted = start.noted;
-    let placed = place(
-        file,
-        tables,
-        nodes,
-        steps,
-        root,
-        flags,
-        order,
-        before,
-        codes,
-        sources,
-    );
-    if 0 < flag_at(flags, root) {
+    let u = first_waiting(file, tables, nodes, steps, root, flags, codes, sources);
+    if nodes.len() <= u {
         put_number(hint, noted, root as u16);
+        let placed = place_ready(file, tables, nodes, steps, root, flags, order, before);
         return Walk {
             depth: 0,
             placed,
@@ -168,11 +200,25 @@ fn walk_from(
         };
     }
     put_number(stack, 0, root as u16);
-    let mut at = Walk {
+    let first = Walk {
         depth: 1,
-        placed,
+        placed: before,
         noted,
     };
+    let mut at = go_down(
+        file,
+        tables,
+        nodes,
+        steps,
+        root,
+        u,
+        stack,
+        met,
+        hint,
+        first,
+        codes,
+        sources,
+    );
     let mut left: usize = 2048;
     while 0 < left {
         if at.depth == 0 {

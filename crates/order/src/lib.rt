@@ -7,18 +7,17 @@ use areas::put_flag;
 use areas::put_number;
 use depth_first::walk_all;
 use index::wide;
-use netlist::Element;
 use nodes::code_in_clock;
-use nodes::source_count;
 ghost use mathlib.Core.Path.{_≡_};
-ghost use Prim.Native.Nat.{_+_, _<_, _≤_};
-ghost use lib.ListN.{length, getD};
-ghost use Rattle.lists.specs.Lists.{allBelow};
+ghost use mathlib.Core.Bool.{true};
+ghost use Prim.Native.Nat.{_<_, _≤_};
+ghost use lib.ListN.{length};
+ghost use lib.Dec.{eqb};
 ghost use Rattle.netlist.specs.Net.{size, elementAt, Sourced};
 ghost use Rattle.columns.specs.Columns.{Columns};
 ghost use Rattle.netlist.specs.ScanLaws.{Found};
 ghost use Rattle.netlist.specs.File.{netIn};
-ghost use Rattle.order.specs.Pass.{on, Waiting};
+ghost use Rattle.order.specs.Pass.{Waiting};
 ghost use Rattle.order.specs.Order.{classOf, Placed, ready, PlacedOnce, PlacedPass};
 
 // The steps that count: those within the clock (check 9), or those into registers (check 10).
@@ -27,44 +26,8 @@ pub enum Steps {
     InRegisters,
 }
 
-fn counted_in_clock(e: Element) -> usize
-    ensures { λ r. ⌜ r ≡ classOf Steps.InClock .of e ⌝ }
-{
-    match e {
-        Element::Input => 0,
-        Element::Output => 1,
-        Element::Register(_) => 0,
-        Element::Async(_) => 1,
-        Element::Clocked(_, _) => 0,
-        Element::Gate(_) => source_count(e),
-    }
-}
-
-fn counted_in_registers(e: Element) -> usize
-    ensures { λ r. ⌜ r ≡ classOf Steps.InRegisters .of e ⌝ }
-{
-    match e {
-        Element::Input => 0,
-        Element::Output => 0,
-        Element::Register(_) => 1,
-        Element::Async(_) => 0,
-        Element::Clocked(_, _) => 0,
-        Element::Gate(_) => 0,
-    }
-}
-
-// How many of an element's sources, from the first on, count.
-pub fn counted(e: Element, steps: Steps) -> usize
-    ensures { λ r. ⌜ r ≡ classOf steps .of e ⌝ }
-{
-    match steps {
-        Steps::InClock => counted_in_clock(e),
-        Steps::InRegisters => counted_in_registers(e),
-    }
-}
-
 // How many sources of node v, from the first on, count.
-fn count_at(
+pub fn count_at(
     file: &[u8],
     tables: &[u16],
     nodes: &[u16],
@@ -83,8 +46,8 @@ fn count_at(
     }
 }
 
-// Whether all that v reads is flagged.
-fn is_ready(
+// The first source of v that counts and is not flagged, or the number of nodes: then v is ready.
+fn first_waiting(
     file: &[u8],
     tables: &[u16],
     nodes: &[u16],
@@ -93,27 +56,47 @@ fn is_ready(
     flags: &[u8],
     codes: &[u8],
     sources: &[u16],
-) -> bool
-    requires { ⌜ Columns (netIn (now file) (now tables) (now nodes)) (now codes) (now sources) (length (now nodes)) × (v < length (now nodes)) × (v < 1024) ⌝ }
-    ensures { λ r. ⌜ r ≡ ready (classOf steps) (netIn (now (file .entry)) (now (tables .entry)) (now (nodes .entry))) (now (flags .entry)) v ⌝ }
+) -> usize
+    requires { ⌜ Found (now file) (now tables) (now nodes) × Sourced (netIn (now file) (now tables) (now nodes)) × (v < length (now nodes)) × (length (now nodes) ≤ length (now flags))
+        × Columns (netIn (now file) (now tables) (now nodes)) (now codes) (now sources) (length (now nodes)) ⌝ }
+    ensures { λ r. ⌜ (r ≤ length (now (nodes .entry)))
+        × (ready (classOf steps) (netIn (now (file .entry)) (now (tables .entry)) (now (nodes .entry))) (now (flags .entry)) v ≡ eqb r (length (now (nodes .entry)))) ⌝ }
 {
     let n = count_at(file, tables, nodes, steps, v, codes, sources);
-    all_flagged(sources, 3 * v, n, flags)
-}
-
-// Whether the n sources from a place on are flagged.
-fn all_flagged(sources: &[u16], from: usize, n: usize, flags: &[u8]) -> bool
-    requires { ⌜ from + n ≤ length (now sources) ⌝ }
-    ensures { λ r. ⌜ r ≡ allBelow n (λ p. on (now (flags .entry)) (getD (now (sources .entry)) (from + p) 0)) ⌝ }
-{
+    let from = 3 * v;
     let mut p: usize = 0;
     while p < n {
-        if flag_at(flags, wide(sources[from + p])) == 0 {
-            return false;
+        let u = wide(sources[from + p]);
+        if flags[u] == 0 {
+            return u;
         }
         p = p + 1;
     }
-    true
+    nodes.len()
+}
+
+// Places v, which is ready, next where it is not placed yet; gives the number of nodes placed.
+fn place_ready(
+    file: &[u8],
+    tables: &[u16],
+    nodes: &[u16],
+    steps: Steps,
+    v: usize,
+    flags: &mut [u8],
+    order: &mut [u16],
+    k: usize,
+) -> usize
+    requires { ⌜ Found (now file) (now tables) (now nodes) × Sourced (netIn (now file) (now tables) (now nodes)) × (v < length (now nodes))
+        × Placed (classOf steps) (netIn (now file) (now tables) (now nodes)) (now flags) (now order) k
+        × (ready (classOf steps) (netIn (now file) (now tables) (now nodes)) (now flags) v ≡ true) ⌝ }
+    ensures { λ r. ⌜ PlacedOnce (classOf steps) (netIn (now (file .entry)) (now (tables .entry)) (now (nodes .entry))) (now (flags .entry)) (now (flags .exit)) (now (order .exit)) k r v ⌝ }
+{
+    if 0 < flag_at(flags, v) {
+        return k;
+    }
+    put_flag(flags, v, 1);
+    put_number(order, k, v as u16);
+    k + 1
 }
 
 // Places v next where it is ready and not placed yet; gives the number of nodes placed.
@@ -137,13 +120,11 @@ fn place(
     if 0 < flag_at(flags, v) {
         return k;
     }
-    if is_ready(file, tables, nodes, steps, v, flags, codes, sources) {
-        put_flag(flags, v, 1);
-        put_number(order, k, v as u16);
-        k + 1
-    } else {
-        k
+    let u = first_waiting(file, tables, nodes, steps, v, flags, codes, sources);
+    if u < nodes.len() {
+        return k;
     }
+    place_ready(file, tables, nodes, steps, v, flags, order, k)
 }
 
 // One pass over the nodes in file order.

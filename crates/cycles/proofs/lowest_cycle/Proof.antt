@@ -45,7 +45,7 @@ slice-aggregate-lowest-on-cycle : tie.Need-slice-aggregate-lowest-on-cycle
 slice-aggregate-lowest-on-cycle c = sym (c .before .before .before .before .before .before .order-with-hint .kept .1 .1 .1 .1 .1 .1 .0 ∙ length-replicate {A = ℕ} 1024 0)
 
 lowest-on-cycle-requires : tie.Need-lowest-on-cycle-requires
-lowest-on-cycle-requires c κs = (c .before .before .before .before .before .before .before .before .before .before .before .before .before .before .before .before .pre .0, c .before .before .before .before .before .before .before .before .before .before .before .before .before .before .before .before .pre .1)
+lowest-on-cycle-requires c κs = (c .before .before .before .before .before .before .before .before .before .before .before .before .before .before .before .before .pre .0, c .before .before .before .before .before .before .before .before .before .before .before .before .before .before .before .before .pre .1, c .before .before .before .before .before .before .before .before .before .before .before .before .before .before .before .before .pre .3)
 
 same-length-2 : tie.Need-same-length-2
 same-length-2 c = c .before .before .before .before .before .before .before .order-with-hint .kept .1 .1 .1 .1 .1 .0

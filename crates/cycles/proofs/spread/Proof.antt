@@ -13,20 +13,20 @@ use Rattle.cycles.proofs.spread.Statement.{statement}
 use Rattle.cycles.proofs.spread.Tie as tie
 
 abbrev Inv-loop : tie.InvT-loop
-Inv-loop file tables nodes steps s marks₀ start k₀ u₀ marks k u = (u ≤ length nodes) × (length marks ≡ length marks₀) × ReachedPass (classOf steps) (netIn file tables nodes) s marks₀ marks start k u
+Inv-loop file tables nodes steps s marks₀ start codes sources k₀ u₀ marks k u = (u ≤ length nodes) × (length marks ≡ length marks₀) × ReachedPass (classOf steps) (netIn file tables nodes) s marks₀ marks start k u
 
 abbrev μ-loop : tie.MeasureT-loop
-μ-loop file tables nodes steps s marks₀ start k₀ u₀ marks k u = length nodes - u
+μ-loop file tables nodes steps s marks₀ start codes sources k₀ u₀ marks k u = length nodes - u
 
 loop-holds : tie.Need-loop-holds Inv-loop μ-loop
-loop-holds c = (omega arith, refl, swept-none (c .before .before .before .before .pre .2))
+loop-holds c = (omega arith, refl, swept-none (c .before .before .before .before .before .before .pre .2))
 
 touch-requires : tie.Need-touch-requires Inv-loop μ-loop
 touch-requires c κs =
-    let a = c .before .before .before .before .before .before .before .args in
+    let a = c .before .before .before .before .before .before .before .before .before .args in
     let N = netIn (a .file .now) (a .tables .now) (a .nodes .now) in
     let K = classOf (a .steps) in
-    (c .before .before .before .before .before .before .before .pre .0, c .before .before .before .before .before .before .before .pre .1, c .before .loop-test .taken, omega (arith, reached-few K N (c .before .before .loop .inv .2 .holds), size-in (a .file .now) (a .tables .now) (a .nodes .now), c .before .before .before .before .before .before .before .pre .0 .few-nodes), c .before .before .loop .inv .2 .holds)
+    (c .before .before .before .before .before .before .before .before .before .pre .0, c .before .before .before .before .before .before .before .before .before .pre .1, c .before .loop-test .taken, omega (arith, reached-few K N (c .before .before .loop .inv .2 .holds), size-in (a .file .now) (a .tables .now) (a .nodes .now), c .before .before .before .before .before .before .before .before .before .pre .0 .few-nodes), c .before .before .loop .inv .2 .holds, c .before .before .before .before .before .before .before .before .before .pre .3)
 
 add-u : tie.Need-add-u Inv-loop μ-loop
 add-u c = omega arith
@@ -42,7 +42,7 @@ same-length c = c .before .loop .inv .1
 
 returns : tie.Need-returns Inv-loop μ-loop
 returns c =
-    let a = c .before .before .before .before .before .before .args in
+    let a = c .before .before .before .before .before .before .before .before .args in
     let N = netIn (a .file .now) (a .tables .now) (a .nodes .now) in
     let K = classOf (a .steps) in
     let e : c .before .loop .u ≡ length (a .nodes .now) = omega arith in

@@ -13,13 +13,13 @@ use Rattle.cycles.proofs.spread_by.Statement.{statement}
 use Rattle.cycles.proofs.spread_by.Tie as tie
 
 abbrev Inv-loop : tie.InvT-loop
-Inv-loop file tables nodes steps s hint marks₀ start k₀ i₀ marks k i = (length marks ≡ length marks₀) × (start ≤ k) × Reached (classOf steps) (netIn file tables nodes) s marks k
+Inv-loop file tables nodes steps s hint marks₀ start codes sources k₀ i₀ marks k i = (length marks ≡ length marks₀) × (start ≤ k) × Reached (classOf steps) (netIn file tables nodes) s marks k
 
 abbrev μ-loop : tie.MeasureT-loop
-μ-loop file tables nodes steps s hint marks₀ start k₀ i₀ marks k i = length hint - i
+μ-loop file tables nodes steps s hint marks₀ start codes sources k₀ i₀ marks k i = length hint - i
 
 loop-holds : tie.Need-loop-holds Inv-loop μ-loop
-loop-holds c = (refl, omega arith, c .before .before .before .before .before .pre .2)
+loop-holds c = (refl, omega arith, c .before .before .before .before .before .before .before .pre .2)
 
 mul-wide : tie.Need-mul-wide Inv-loop μ-loop
 mul-wide c = omega arith
@@ -32,10 +32,10 @@ wide-requires c κs = search needs
 
 touch-if-requires : tie.Need-touch-if-requires Inv-loop μ-loop
 touch-if-requires c κs =
-    let a = c .before .before .before .before .before .before .before .before .before .before .args in
+    let a = c .before .before .before .before .before .before .before .before .before .before .before .before .args in
     let K = classOf (a .steps) in
     let N = netIn (a .file .now) (a .tables .now) (a .nodes .now) in
-    (c .before .before .before .before .before .before .before .before .before .before .pre .0, c .before .before .before .before .before .before .before .before .before .before .pre .1, omega (arith, reached-few K N (c .before .before .before .before .loop .inv .2), size-in (a .file .now) (a .tables .now) (a .nodes .now), c .before .before .before .before .before .before .before .before .before .before .pre .0 .few-nodes), c .before .before .before .before .loop .inv .2)
+    (c .before .before .before .before .before .before .before .before .before .before .before .before .pre .0, c .before .before .before .before .before .before .before .before .before .before .before .before .pre .1, omega (arith, reached-few K N (c .before .before .before .before .loop .inv .2), size-in (a .file .now) (a .tables .now) (a .nodes .now), c .before .before .before .before .before .before .before .before .before .before .before .before .pre .0 .few-nodes), c .before .before .before .before .loop .inv .2, c .before .before .before .before .before .before .before .before .before .before .before .before .pre .3)
 
 add-i : tie.Need-add-i Inv-loop μ-loop
 add-i c = omega arith

@@ -2,12 +2,10 @@
 use mathlib.Core.Path.{sym, _∙_}
 use native.Mathlib.Omega.{arith}
 use borrow.Author.Needs.{needs}
-use Rattle.netlist.specs.NodeLaws.{few-operands}
 use Rattle.netlist.specs.File.{netIn}
 use Rattle.netlist.specs.FileLaws.{size-in}
 use Rattle.order.specs.Pass.{once-on, once-waiting}
 use Rattle.order.specs.Order.{classOf}
-use Rattle.order.specs.OrderLaws.{few}
 use Rattle.cycles.specs.Spread.{reached-once}
 use Rattle.cycles.proofs.Touches.{touches-is}
 use Rattle.cycles.proofs.touch.Statement.{statement}
@@ -20,18 +18,16 @@ same-length : tie.Need-same-length
 same-length c = search needs
 
 returns : tie.Need-returns
-returns c = once-on (c .before .before .before .before .before .before .before .pre .4) (omega (arith, c .before .flag-at .ensures))
+returns c = once-on (c .before .before .before .before .before .before .before .before .before .pre .4) (omega (arith, c .before .flag-at .ensures))
 
-node-requires : tie.Need-node-requires
-node-requires c κs = search needs
+count-at-requires : tie.Need-count-at-requires
+count-at-requires c κs = (c .before .before .before .before .before .before .before .before .before .pre .5, c .before .before .before .before .before .before .before .before .before .pre .2, omega (arith, c .before .before .before .before .before .before .before .before .before .pre .2, c .before .before .before .before .before .before .before .before .before .pre .0 .few-nodes))
 
-counted-requires : tie.Need-counted-requires
-counted-requires c κs = search needs
+mul-any-touched : tie.Need-mul-any-touched
+mul-any-touched c = omega (arith, c .before .before .before .before .before .before .before .before .before .before .pre .2, c .before .before .before .before .before .before .before .before .before .before .pre .0 .few-nodes)
 
 any-touched-requires : tie.Need-any-touched-requires
-any-touched-requires c κs =
-    let e = c .before .before .before .node .result .element in
-    omega (arith, c .before .counted .ensures, classOf (c .before .before .before .before .before .before .before .before .before .before .before .args .steps) .few e, few-operands e)
+any-touched-requires c κs = omega (arith, c .before .before .before .before .before .before .before .before .before .before .before .pre .2, c .before .before .before .before .before .before .before .before .before .before .before .pre .0 .few-nodes, c .before .before .before .before .before .before .before .before .before .before .before .pre .5 .source-room, c .before .count-at .ensures .1)
 
 put-flag-requires : tie.Need-put-flag-requires
 put-flag-requires c κs = search needs
@@ -47,7 +43,7 @@ returns-2 c =
     let a = c .before .before .before .before .before .before .before .before .before .before .before .before .before .before .before .before .before .args in
     let N = netIn (a .file .now) (a .tables .now) (a .nodes .now) in
     let K = classOf (a .steps) in
-    reached-once K N (c .before .before .before .before .before .before .before .before .before .before .before .before .before .before .before .before .before .pre .1) (c .before .before .before .before .before .before .before .before .before .before .before .before .before .before .before .before .before .pre .4) (omega (arith, c .before .before .before .before .before .before .before .before .before .before .before .before .before .before .before .before .before .pre .2, size-in (a .file .now) (a .tables .now) (a .nodes .now))) (omega (arith, c .before .before .before .before .before .before .before .before .before .before .before .flag-at .ensures)) (sym (c .before .before .before .before .before .any-touched .ensures ∙ touches-is K N (a .s) (a .marks .now) (a .u) (c .before .before .before .before .before .before .before .before .before .node .result) (c .before .before .before .before .before .before .before .before .before .node .ensures) (c .before .before .before .before .before .before .before .counted .result) (c .before .before .before .before .before .before .before .counted .ensures)) ∙ c .before .before .before .before .if2 .taken) (c .before .before .put-flag .ensures)
+    reached-once K N (c .before .before .before .before .before .before .before .before .before .before .before .before .before .before .before .before .before .pre .1) (c .before .before .before .before .before .before .before .before .before .before .before .before .before .before .before .before .before .pre .4) (omega (arith, c .before .before .before .before .before .before .before .before .before .before .before .before .before .before .before .before .before .pre .2, size-in (a .file .now) (a .tables .now) (a .nodes .now))) (omega (arith, c .before .before .before .before .before .before .before .before .before .flag-at .ensures)) (sym (c .before .before .before .before .before .any-touched .ensures ∙ touches-is K N (c .before .before .before .before .before .before .before .before .before .before .before .before .before .before .before .before .before .pre .5) (a .s) (a .marks .now) (a .u) (c .before .before .before .before .before .before .before .before .before .before .before .before .before .before .before .before .before .pre .2) (c .before .before .before .before .before .before .before .count-at .result) (c .before .before .before .before .before .before .before .count-at .ensures .0) (c .before .before .before .before .before .before .before .count-at .ensures .1)) ∙ c .before .before .before .before .if2 .taken) (c .before .before .put-flag .ensures)
 
 same-length-3 : tie.Need-same-length-3
 same-length-3 c = search needs
@@ -57,7 +53,7 @@ returns-3 c =
     let a = c .before .before .before .before .before .before .before .before .before .before .before .before .before .args in
     let N = netIn (a .file .now) (a .tables .now) (a .nodes .now) in
     let K = classOf (a .steps) in
-    once-waiting (c .before .before .before .before .before .before .before .before .before .before .before .before .before .pre .4) (sym (c .before .any-touched .ensures ∙ touches-is K N (a .s) (a .marks .now) (a .u) (c .before .before .before .before .before .node .result) (c .before .before .before .before .before .node .ensures) (c .before .before .before .counted .result) (c .before .before .before .counted .ensures)) ∙ c .if2 .left)
+    once-waiting (c .before .before .before .before .before .before .before .before .before .before .before .before .before .pre .4) (sym (c .before .any-touched .ensures ∙ touches-is K N (c .before .before .before .before .before .before .before .before .before .before .before .before .before .pre .5) (a .s) (a .marks .now) (a .u) (c .before .before .before .before .before .before .before .before .before .before .before .before .before .pre .2) (c .before .before .before .count-at .result) (c .before .before .before .count-at .ensures .0) (c .before .before .before .count-at .ensures .1)) ∙ c .if2 .left)
 
 pub touch-spec : {M : Type 1} → statement M
 touch-spec =
@@ -66,8 +62,8 @@ touch-spec =
     flag-at-requires
     same-length
     returns
-    node-requires
-    counted-requires
+    count-at-requires
+    mul-any-touched
     any-touched-requires
     put-flag-requires
     add-result

@@ -1,13 +1,11 @@
--- By the three laws of a try at one node.
-use mathlib.Core.Path.{sym, _∙_}
+-- By the laws of a try at one node.
+use mathlib.Core.Path.{_∙_}
 use native.Mathlib.Omega.{arith}
+use lib.ListN.{length}
 use borrow.Author.Needs.{needs}
-use Rattle.netlist.specs.File.{netIn}
+use borrow.Author.Tests.{eq-eqb, ne-eqb}
 use Rattle.netlist.specs.FileLaws.{size-in}
-use Rattle.order.specs.OrderLaws.{few}
 use Rattle.order.specs.Pass.{once-on, once-waiting}
-use Rattle.order.specs.Order.{classOf}
-use Rattle.order.proofs.Places.{placed-once}
 use Rattle.order.proofs.place.Statement.{statement}
 use Rattle.order.proofs.place.Tie as tie
 
@@ -18,59 +16,31 @@ same-length : tie.Need-same-length
 same-length c = search needs
 
 returns : tie.Need-returns
-returns c =
-    let a = c .before .before .before .before .before .before .before .before .before .before .args in
-    let N = netIn (a .file .now) (a .tables .now) (a .nodes .now) in
-    let K = classOf (a .steps) in
-    let t = c .before .before .before .before .before .before .before .before .before .before .pre .3 in
-    once-on t (omega (arith, c .before .flag-at .ensures))
+returns c = once-on (c .before .before .before .before .before .before .before .before .before .before .pre .3) (omega (arith, c .if1 .taken, c .before .flag-at .ensures))
 
-is-ready-requires : tie.Need-is-ready-requires
-is-ready-requires c κs = (c .before .before .before .before .before .before .before .before .before .before .before .pre .4, c .before .before .before .before .before .before .before .before .before .before .before .pre .2, omega (arith, c .before .before .before .before .before .before .before .before .before .before .before .pre .2, c .before .before .before .before .before .before .before .before .before .before .before .pre .0 .few-nodes))
-
-put-flag-requires : tie.Need-put-flag-requires
-put-flag-requires c κs = search needs
-
-cast-put-number : tie.Need-cast-put-number
-cast-put-number c =
-    let a = c .before .before .before .before .before .before .before .before .before .before .before .before .before .before .before .before .before .before .args in
-    let N = netIn (a .file .now) (a .tables .now) (a .nodes .now) in
-    omega (arith, c .before .before .before .before .before .before .before .before .before .before .before .before .before .before .before .before .before .before .pre .2, c .before .before .before .before .before .before .before .before .before .before .before .before .before .before .before .before .before .before .pre .0 .few-nodes)
-
-put-number-requires : tie.Need-put-number-requires
-put-number-requires c κs = search needs
-
-add-result : tie.Need-add-result
-add-result c =
-    let a = c .before .before .before .before .before .before .before .before .before .before .before .before .before .before .before .before .before .before .before .before .before .args in
-    let N = netIn (a .file .now) (a .tables .now) (a .nodes .now) in
-    omega (arith, few (classOf (a .steps)) N (c .before .before .before .before .before .before .before .before .before .before .before .before .before .before .before .before .before .before .before .before .before .pre .3), size-in (a .file .now) (a .tables .now) (a .nodes .now), c .before .before .before .before .before .before .before .before .before .before .before .before .before .before .before .before .before .before .before .before .before .pre .0 .few-nodes)
+first-waiting-requires : tie.Need-first-waiting-requires
+first-waiting-requires c κs =
+    let a = c .before .before .before .before .before .before .before .before .before .before .before .args in
+    (c .before .before .before .before .before .before .before .before .before .before .before .pre .0, c .before .before .before .before .before .before .before .before .before .before .before .pre .1, c .before .before .before .before .before .before .before .before .before .before .before .pre .2, omega (arith, c .before .before .before .before .before .before .before .before .before .before .before .pre .3 .flags-room, size-in (a .file .now) (a .tables .now) (a .nodes .now)), c .before .before .before .before .before .before .before .before .before .before .before .pre .4)
 
 same-length-2 : tie.Need-same-length-2
 same-length-2 c = search needs
 
+returns-2 : tie.Need-returns-2
+returns-2 c = once-waiting (c .before .before .before .before .before .before .before .before .before .before .before .before .before .pre .3) (c .before .first-waiting .ensures .1 ∙ ne-eqb (c .before .first-waiting .result) (length (c .before .before .before .before .before .before .before .before .before .before .before .before .before .args .nodes .now)) (λ e. omega (arith, c .if2 .taken, e)))
+
+place-ready-requires : tie.Need-place-ready-requires
+place-ready-requires c κs =
+    (c .before .before .before .before .before .before .before .before .before .before .before .before .before .before .before .pre .0, c .before .before .before .before .before .before .before .before .before .before .before .before .before .before .before .pre .1, c .before .before .before .before .before .before .before .before .before .before .before .before .before .before .before .pre .2, c .before .before .before .before .before .before .before .before .before .before .before .before .before .before .before .pre .3, c .before .before .before .first-waiting .ensures .1 ∙ eq-eqb (c .before .before .before .first-waiting .result) (length (c .before .before .before .before .before .before .before .before .before .before .before .before .before .before .before .args .nodes .now)) (omega (arith, c .before .before .if2 .left, c .before .before .before .first-waiting .ensures .0)))
+
 same-length-3 : tie.Need-same-length-3
 same-length-3 c = search needs
-
-returns-2 : tie.Need-returns-2
-returns-2 c =
-    let a = c .before .before .before .before .before .before .before .before .before .before .before .before .before .before .before .before .before .before .before .before .before .args in
-    let N = netIn (a .file .now) (a .tables .now) (a .nodes .now) in
-    let K = classOf (a .steps) in
-    let t = c .before .before .before .before .before .before .before .before .before .before .before .before .before .before .before .before .before .before .before .before .before .pre .3 in
-    placed-once K N t (c .before .before .before .before .before .before .before .before .before .before .before .before .before .before .before .before .before .before .before .before .before .pre .1) (omega (arith, c .before .before .before .before .before .before .before .before .before .before .before .before .before .before .before .before .before .before .before .before .before .pre .2, size-in (a .file .now) (a .tables .now) (a .nodes .now))) (omega (arith, c .before .before .before .before .before .before .before .before .before .before .before .before .flag-at .ensures)) (sym (c .before .before .before .before .before .before .before .before .before .is-ready .ensures) ∙ c .before .before .before .before .before .before .before .before .if2 .taken)
-    (c .before .before .before .before .before .before .put-flag .ensures) (c .before .before .put-number .ensures)
 
 same-length-4 : tie.Need-same-length-4
 same-length-4 c = search needs
 
 returns-3 : tie.Need-returns-3
-returns-3 c =
-    let a = c .before .before .before .before .before .before .before .before .before .before .before .before .before .args in
-    let N = netIn (a .file .now) (a .tables .now) (a .nodes .now) in
-    let K = classOf (a .steps) in
-    let t = c .before .before .before .before .before .before .before .before .before .before .before .before .before .pre .3 in
-    once-waiting t (sym (c .before .is-ready .ensures) ∙ c .if2 .left)
+returns-3 c = search needs
 
 pub place-spec : {M : Type 1} → statement M
 place-spec =
@@ -79,13 +49,10 @@ place-spec =
     flag-at-requires
     same-length
     returns
-    is-ready-requires
-    put-flag-requires
-    cast-put-number
-    put-number-requires
-    add-result
+    first-waiting-requires
     same-length-2
-    same-length-3
     returns-2
+    place-ready-requires
+    same-length-3
     same-length-4
     returns-3)

@@ -1,0 +1,129 @@
+// Check 10 by ranks: where a rank falls along each step into a register there is no ring. The ranks are proposed, not trusted: they are looked over once.
+use super::lowest_cycle;
+use areas::flag_at;
+use areas::number_at;
+use areas::put_number;
+use index::wide;
+use order::Steps;
+ghost use mathlib.Core.Path.{_≡_};
+ghost use mathlib.Core.Bool.{true};
+ghost use Prim.Native.Nat.{_≤_};
+ghost use lib.ListN.{length, getD};
+ghost use Rattle.lists.specs.Lists.{lowest};
+ghost use Rattle.netlist.specs.Net.{inRegisters, Sourced, RankedIn};
+ghost use Rattle.netlist.specs.Reach.{reachesItself};
+ghost use Rattle.netlist.specs.ScanLaws.{Found};
+ghost use Rattle.netlist.specs.File.{netIn};
+ghost use Rattle.columns.specs.Columns.{Columns};
+
+// Registers of which each reads the next: how many, and the rank of what the last one reads.
+pub struct Chain {
+    pub length: usize,
+    pub base: usize,
+}
+
+// The registers back from a start up to one that has a rank; each is marked with the highest rank, so that a ring ends too.
+fn mark_chain(codes: &[u8], sources: &[u16], start: usize, ranks: &mut [u16]) -> Chain
+    requires { ⌜ start ≤ 65535 ⌝ }
+    ensures { λ r. ⌜ r .length ≤ 1024 ⌝ }
+{
+    let mut v = start;
+    let mut length: usize = 0;
+    while length < 1024 {
+        if flag_at(codes, v) != 2 {
+            return Chain { length, base: 0 };
+        }
+        let rank = wide(number_at(ranks, v));
+        if 0 < rank {
+            return Chain { length, base: rank };
+        }
+        put_number(ranks, v, 65535);
+        v = wide(number_at(sources, 3 * v));
+        length = length + 1;
+    }
+    Chain { length, base: 0 }
+}
+
+// Gives the registers of a chain their ranks, from the start down; those that lead to a ring keep the mark.
+fn rank_chain(sources: &[u16], start: usize, chain: Chain, ranks: &mut [u16])
+    requires { ⌜ (start ≤ 65535) × (chain .length ≤ 1024) ⌝ }
+{
+    let base = chain.base;
+    let mut left = chain.length;
+    if 64511 < base {
+        left = 0;
+    }
+    let mut v = start;
+    while 0 < left {
+        put_number(ranks, v, (base + left) as u16);
+        v = wide(number_at(sources, 3 * v));
+        left = left - 1;
+    }
+}
+
+// Ranks all registers among the first n nodes.
+fn rank_registers(codes: &[u8], sources: &[u16], n: usize, ranks: &mut [u16])
+    requires { ⌜ n ≤ 1024 ⌝ }
+{
+    let mut v: usize = 0;
+    while v < n {
+        let chain = mark_chain(codes, sources, v, ranks);
+        rank_chain(sources, v, chain, ranks);
+        v = v + 1;
+    }
+}
+
+// Whether each register has a higher rank than what it reads.
+fn ranked(
+    file: &[u8],
+    tables: &[u16],
+    nodes: &[u16],
+    ranks: &[u16],
+    codes: &[u8],
+    sources: &[u16],
+) -> bool
+    requires { ⌜ Found (now file) (now tables) (now nodes)
+        × Columns (netIn (now file) (now tables) (now nodes)) (now codes) (now sources) (length (now nodes)) ⌝ }
+    ensures { λ r. ⌜ (r ≡ true → RankedIn inRegisters (netIn (now (file .entry)) (now (tables .entry)) (now (nodes .entry))) (λ v. getD (now (ranks .entry)) v 0)) ⌝ }
+{
+    let mut v: usize = 0;
+    while v < nodes.len() {
+        if codes[v] == 2 {
+            let u = wide(sources[3 * v]);
+            if number_at(ranks, v) <= number_at(ranks, u) {
+                return false;
+            }
+        }
+        v = v + 1;
+    }
+    true
+}
+
+// The lowest register on a ring, or the number of nodes.
+pub fn lowest_ring(
+    file: &[u8],
+    tables: &[u16],
+    nodes: &[u16],
+    codes: &[u8],
+    sources: &[u16],
+) -> usize
+    requires { ⌜ Found (now file) (now tables) (now nodes) × Sourced (netIn (now file) (now tables) (now nodes))
+        × Columns (netIn (now file) (now tables) (now nodes)) (now codes) (now sources) (length (now nodes)) ⌝ }
+    ensures { λ r. ⌜ r ≡ lowest (length (now (nodes .entry))) (reachesItself inRegisters (netIn (now (file .entry)) (now (tables .entry)) (now (nodes .entry)))) ⌝ }
+{
+    let mut ranks = [0u16; 1024];
+    rank_registers(codes, sources, nodes.len(), &mut ranks);
+    if ranked(file, tables, nodes, &ranks, codes, sources) {
+        return nodes.len();
+    }
+    // The ranks' room holds the order that nobody needs.
+    lowest_cycle(
+        file,
+        tables,
+        nodes,
+        Steps::InRegisters,
+        &mut ranks,
+        codes,
+        sources,
+    )
+}
