@@ -1,4 +1,5 @@
 pub mod RowKinds
-pub mod ByKind
+pub mod Fields
+pub mod ByCode
 pub mod Roms
 pub mod Rows

@@ -3,19 +3,14 @@ use mathlib.Core.Path.{_≡_}
 use mathlib.Core.List.{List}
 use Prim.Native.Nat.{ℕ, _^_, _<_}
 use lib.ListN.{length, getD}
-use Rattle.netlist.specs.Net.{Net, size, nodeAt, elementAt, widthAt, source, withinClock, contentsIn}
-use Rattle.netlist.specs.declared.Element.{Element}
+use Rattle.netlist.specs.Net.{Net, size, elementAt, widthAt, source, withinClock, contentsAt}
 use Rattle.behaviour.specs.Run.{gives-now, words}
 use Rattle.evaluate.specs.Rows.{rowOf}
 use Rattle.evaluate.specs.declared.Row.the-variants.{Inputs, State}
 
--- what an element gives: `own` where its word was loaded, else from its sources' words
-abbrev pub elementWord : Net → Element → ℕ → List ℕ → ℕ → List ℕ → ℕ
-elementWord N e w sources own ws =
-    gives-now (contentsIn (N .tables) e) e w (λ p. widthAt N (getD sources p 0)) own own (λ p. getD ws (getD sources p 0) 0)
-
+-- what a node gives: its own word where that was loaded, else from its sources' words
 unfoldable pub nodeWord : Net → List ℕ → ℕ → ℕ
-nodeWord N ws v = elementWord N (elementAt N v) (widthAt N v) (nodeAt N v .sources) (getD ws v 0) ws
+nodeWord N ws v = gives-now (contentsAt N v) (elementAt N v) (widthAt N v) (λ p. widthAt N (source N v p)) (getD ws v 0) (getD ws v 0) (λ p. getD ws (source N v p) 0)
 
 -- the words that a node reads within the clock fit
 abbrev pub OperandsFit : Net → List ℕ → ℕ → Type 0

@@ -1,7 +1,5 @@
 pub mod SelectLaws
 pub mod Rows
-pub mod Spelling
-pub mod SpellingLaws
 pub mod Loading
 pub mod Clock
 pub mod ClockFits

@@ -228,6 +228,18 @@ no-holder (Async m) h t = absurd (false≢true t)
 no-holder (Clocked m r) h t = absurd (true≢false h)
 no-holder (Gate o) h t = absurd (false≢true t)
 
+-- what holds no word has 0 after reset
+holds-none : (e : Element) → holdsWord e ≡ false → 0 ≡ holds-first e
+holds-none Input h = refl
+holds-none Output h = refl
+holds-none (Register r) h = absurd (true≢false h)
+holds-none (Async m) h = refl
+holds-none (Clocked m r) h = absurd (true≢false h)
+holds-none (Gate o) h = refl
+
+pub first-none : (N : Net) (wf : WellFormed N) (v : ℕ) → v < size N → holdsWord (elementAt N v) ≡ false → Begins N 0 v 0
+first-none N wf v h q t = holds-none (elementAt N v) q ∙ first-word N wf v h t
+
 -- the word after reset, as the code reads the node
 pub first-read : (N : Net) (wf : WellFormed N) (v : ℕ) → v < size N → {y : Node} → y ≡ nodeAt N v → (isInput (elementAt N v) || holdsWord (elementAt N v)) ≡ true → holds-first (y .element) ≡ zeroWord N 0 v
 unfolding elementAt

@@ -3,7 +3,7 @@ use areas::number_at;
 use areas::put_number;
 use evaluate::Row;
 use evaluate::evaluate;
-use evaluate::in_row;
+use evaluate::lent::in_row_by;
 use index::node;
 use index::wide;
 use run::next_word;
@@ -15,24 +15,53 @@ ghost use Rattle.netlist.specs.Net.{inClock};
 ghost use Rattle.netlist.specs.Checks.{WellFormed};
 ghost use Rattle.netlist.specs.ScanLaws.{Found};
 ghost use Rattle.netlist.specs.File.{netIn};
+ghost use Rattle.columns.specs.Columns.{Columns, Widths};
 ghost use Rattle.order.specs.Order.{Complete};
 ghost use Rattle.run.specs.Next.{WordsFit};
 ghost use Rattle.behaviour.specs.Run.{zeroWord};
-ghost use Rattle.columns.specs.Columns.{Columns};
 ghost use Rattle.wires.specs.Traced.{AllTraced};
 ghost use Rattle.first_clocks.specs.Wanted.{OfNodes, Taken, WordsAt, due, DueBefore, Took, TakenTo};
 ghost use Rattle.first_clocks.specs.ZeroRun.{Begins, Loads};
 
+// The word of node v after reset.
+fn first_word(
+    file: &[u8],
+    tables: &[u16],
+    nodes: &[u16],
+    v: usize,
+    codes: &[u8],
+    sources: &[u16],
+) -> u16
+    requires { ⌜ Found (now file) (now tables) (now nodes) × WellFormed (netIn (now file) (now tables) (now nodes)) × (v < length (now nodes))
+        × Columns (netIn (now file) (now tables) (now nodes)) (now codes) (now sources) (length (now nodes)) ⌝ }
+    ensures { λ r. ⌜ Begins (netIn (now (file .entry)) (now (tables .entry)) (now (nodes .entry))) 0 v r ⌝ }
+{
+    let holds = in_row_by(file, tables, nodes, Row::State, v, codes, sources);
+    if holds {
+        let x = node(file, tables, nodes, v);
+        let e = x.element;
+        reset_word(e)
+    } else {
+        0
+    }
+}
+
 // Loads the words after reset.
-fn load_reset(file: &[u8], tables: &[u16], nodes: &[u16], words: &mut [u16])
-    requires { ⌜ Found (now file) (now tables) (now nodes) × WellFormed (netIn (now file) (now tables) (now nodes)) × (length (now nodes) ≤ length (now words)) ⌝ }
+fn load_reset(
+    file: &[u8],
+    tables: &[u16],
+    nodes: &[u16],
+    words: &mut [u16],
+    codes: &[u8],
+    sources: &[u16],
+)
+    requires { ⌜ Found (now file) (now tables) (now nodes) × WellFormed (netIn (now file) (now tables) (now nodes)) × (length (now nodes) ≤ length (now words))
+        × Columns (netIn (now file) (now tables) (now nodes)) (now codes) (now sources) (length (now nodes)) ⌝ }
     ensures { λ _. ⌜ Loads (netIn (now (file .entry)) (now (tables .entry)) (now (nodes .entry))) 0 (now (words .exit)) ⌝ }
 {
     let mut v: usize = 0;
     while v < nodes.len() {
-        let x = node(file, tables, nodes, v);
-        let e = x.element;
-        put_number(words, v, reset_word(e));
+        put_number(words, v, first_word(file, tables, nodes, v, codes, sources));
         v = v + 1;
     }
 }
@@ -86,10 +115,10 @@ fn holder(
     v: usize,
     clock: u16,
     codes: &[u8],
-    reads: &[u16],
+    sources: &[u16],
 ) -> usize
     requires { ⌜ Found (now file) (now tables) (now nodes) × WellFormed (netIn (now file) (now tables) (now nodes)) × AllTraced (netIn (now file) (now tables) (now nodes)) (now roots) (now passes)
-        × Columns (netIn (now file) (now tables) (now nodes)) (now codes) (now reads) (length (now nodes)) × (v < length (now nodes)) ⌝ }
+        × Columns (netIn (now file) (now tables) (now nodes)) (now codes) (now sources) (length (now nodes)) × (v < length (now nodes)) ⌝ }
     ensures { λ r. ⌜ (r < length (now (nodes .entry))) × (zeroWord (netIn (now (file .entry)) (now (tables .entry)) (now (nodes .entry))) clock v ≡ zeroWord (netIn (now (file .entry)) (now (tables .entry)) (now (nodes .entry))) (clock - getD (now (passes .entry)) v 0) r) ⌝ }
 {
     if number_at(passes, v) <= clock {
@@ -98,7 +127,7 @@ fn holder(
     let mut u = v;
     let mut left = clock;
     while 0 < left {
-        u = wide(number_at(reads, 3 * u));
+        u = wide(number_at(sources, 3 * u));
         left = left - 1;
     }
     u
@@ -118,10 +147,10 @@ fn take(
     k: usize,
     found: &mut [u16],
     codes: &[u8],
-    reads: &[u16],
+    sources: &[u16],
 )
     requires { ⌜ Found (now file) (now tables) (now nodes) × WellFormed (netIn (now file) (now tables) (now nodes)) × AllTraced (netIn (now file) (now tables) (now nodes)) (now roots) (now passes)
-        × Columns (netIn (now file) (now tables) (now nodes)) (now codes) (now reads) (length (now nodes)) × OfNodes (netIn (now file) (now tables) (now nodes)) (now clocks) (now wanted) × WordsAt (netIn (now file) (now tables) (now nodes)) t (now words)
+        × Columns (netIn (now file) (now tables) (now nodes)) (now codes) (now sources) (length (now nodes)) × OfNodes (netIn (now file) (now tables) (now nodes)) (now clocks) (now wanted) × WordsAt (netIn (now file) (now tables) (now nodes)) t (now words)
         × (length (now clocks) ≤ length (now found)) × (k < length (now clocks)) ⌝ }
     ensures { λ _. ⌜ Took (netIn (now (file .entry)) (now (tables .entry)) (now (nodes .entry))) (now (passes .entry)) (now (clocks .entry)) (now (wanted .entry)) t k (now (found .entry)) (now (found .exit)) ⌝ }
 {
@@ -129,7 +158,7 @@ fn take(
     if clock < 65535 {
         let v = wide(number_at(wanted, k));
         if due_after(passes, v, clock) == t {
-            let u = holder(file, tables, nodes, roots, passes, v, clock, codes, reads);
+            let u = holder(file, tables, nodes, roots, passes, v, clock, codes, sources);
             put_number(found, k, number_at(words, u));
         }
     }
@@ -148,10 +177,10 @@ fn take_due(
     words: &[u16],
     found: &mut [u16],
     codes: &[u8],
-    reads: &[u16],
+    sources: &[u16],
 )
     requires { ⌜ Found (now file) (now tables) (now nodes) × WellFormed (netIn (now file) (now tables) (now nodes)) × AllTraced (netIn (now file) (now tables) (now nodes)) (now roots) (now passes)
-        × Columns (netIn (now file) (now tables) (now nodes)) (now codes) (now reads) (length (now nodes)) × OfNodes (netIn (now file) (now tables) (now nodes)) (now clocks) (now wanted) × WordsAt (netIn (now file) (now tables) (now nodes)) t (now words)
+        × Columns (netIn (now file) (now tables) (now nodes)) (now codes) (now sources) (length (now nodes)) × OfNodes (netIn (now file) (now tables) (now nodes)) (now clocks) (now wanted) × WordsAt (netIn (now file) (now tables) (now nodes)) t (now words)
         × (length (now clocks) ≤ length (now found)) ⌝ }
     ensures { λ _. ⌜ TakenTo (netIn (now (file .entry)) (now (tables .entry)) (now (nodes .entry))) (now (passes .entry)) (now (clocks .entry)) (now (wanted .entry)) t (now (found .entry)) (now (found .exit)) (length (now (clocks .entry))) ⌝ }
 {
@@ -170,7 +199,7 @@ fn take_due(
             k,
             found,
             codes,
-            reads,
+            sources,
         );
         k = k + 1;
     }
@@ -179,29 +208,51 @@ fn take_due(
 // ---- clock by clock
 
 // The word with which node v begins the next clock, from the words of this one.
-fn begins_with(file: &[u8], tables: &[u16], nodes: &[u16], v: usize, words: &[u16]) -> u16
+fn begins_with(
+    file: &[u8],
+    tables: &[u16],
+    nodes: &[u16],
+    v: usize,
+    words: &[u16],
+    codes: &[u8],
+    sources: &[u16],
+) -> u16
     requires { ⌜ Found (now file) (now tables) (now nodes) × WellFormed (netIn (now file) (now tables) (now nodes)) × (v < length (now nodes))
-        × WordsFit (netIn (now file) (now tables) (now nodes)) (now words) ⌝ }
+        × WordsFit (netIn (now file) (now tables) (now nodes)) (now words)
+        × Columns (netIn (now file) (now tables) (now nodes)) (now codes) (now sources) (length (now nodes)) ⌝ }
     ensures { λ r. ⌜ ((t : ℕ) → WordsAt (netIn (now (file .entry)) (now (tables .entry)) (now (nodes .entry))) t (now (words .entry))
         → Begins (netIn (now (file .entry)) (now (tables .entry)) (now (nodes .entry))) (t + 1) v r) ⌝ }
 {
-    if in_row(file, tables, nodes, Row::State, v) {
-        next_word(file, tables, nodes, v, words)
+    if in_row_by(file, tables, nodes, Row::State, v, codes, sources) {
+        next_word(file, tables, nodes, v, words, codes, sources)
     } else {
         0
     }
 }
 
 // Loads the words with which the next clock begins.
-fn load_next(file: &[u8], tables: &[u16], nodes: &[u16], words: &[u16], next: &mut [u16])
+fn load_next(
+    file: &[u8],
+    tables: &[u16],
+    nodes: &[u16],
+    words: &[u16],
+    next: &mut [u16],
+    codes: &[u8],
+    sources: &[u16],
+)
     requires { ⌜ Found (now file) (now tables) (now nodes) × WellFormed (netIn (now file) (now tables) (now nodes)) × (length (now nodes) ≤ length (now next))
-        × WordsFit (netIn (now file) (now tables) (now nodes)) (now words) ⌝ }
+        × WordsFit (netIn (now file) (now tables) (now nodes)) (now words)
+        × Columns (netIn (now file) (now tables) (now nodes)) (now codes) (now sources) (length (now nodes)) ⌝ }
     ensures { λ _. ⌜ ((t : ℕ) → WordsAt (netIn (now (file .entry)) (now (tables .entry)) (now (nodes .entry))) t (now (words .entry))
         → Loads (netIn (now (file .entry)) (now (tables .entry)) (now (nodes .entry))) (t + 1) (now (next .exit))) ⌝ }
 {
     let mut v: usize = 0;
     while v < nodes.len() {
-        put_number(next, v, begins_with(file, tables, nodes, v, words));
+        put_number(
+            next,
+            v,
+            begins_with(file, tables, nodes, v, words, codes, sources),
+        );
         v = v + 1;
     }
 }
@@ -230,20 +281,31 @@ pub fn first_words(
     wanted: &[u16],
     found: &mut [u16],
     codes: &[u8],
-    reads: &[u16],
+    sources: &[u16],
+    widths: &[u8],
 )
     requires { ⌜ Found (now file) (now tables) (now nodes) × WellFormed (netIn (now file) (now tables) (now nodes))
         × Complete inClock (netIn (now file) (now tables) (now nodes)) (now order) × AllTraced (netIn (now file) (now tables) (now nodes)) (now roots) (now passes)
-        × Columns (netIn (now file) (now tables) (now nodes)) (now codes) (now reads) (length (now nodes)) × OfNodes (netIn (now file) (now tables) (now nodes)) (now clocks) (now wanted) × (length (now clocks) ≤ length (now found)) ⌝ }
+        × Columns (netIn (now file) (now tables) (now nodes)) (now codes) (now sources) (length (now nodes)) × OfNodes (netIn (now file) (now tables) (now nodes)) (now clocks) (now wanted) × (length (now clocks) ≤ length (now found))
+        × Widths (netIn (now file) (now tables) (now nodes)) (now widths) (length (now nodes)) ⌝ }
     ensures { λ _. ⌜ Taken (netIn (now (file .entry)) (now (tables .entry)) (now (nodes .entry))) (now (clocks .entry)) (now (wanted .entry)) (now (found .entry)) (now (found .exit)) ⌝ }
 {
     let mut words = [0u16; 1024];
     let mut next = [0u16; 1024];
     let limit = clocks_to_run(passes, clocks, wanted);
-    load_reset(file, tables, nodes, &mut words);
+    load_reset(file, tables, nodes, &mut words, codes, sources);
     let mut t: usize = 0;
     while t < limit {
-        evaluate(file, tables, nodes, order, &mut words);
+        evaluate(
+            file,
+            tables,
+            nodes,
+            order,
+            &mut words,
+            codes,
+            sources,
+            widths,
+        );
         take_due(
             file,
             tables,
@@ -256,10 +318,12 @@ pub fn first_words(
             &words,
             found,
             codes,
-            reads,
+            sources,
         );
-        load_next(file, tables, nodes, &words, &mut next);
-        copy(&next, &mut words);
         t = t + 1;
+        if t < limit {
+            load_next(file, tables, nodes, &words, &mut next, codes, sources);
+            copy(&next, &mut words);
+        }
     }
 }

@@ -14,7 +14,7 @@ ghost use Rattle.netlist.specs.Net.{inClock};
 ghost use Rattle.netlist.specs.ScanLaws.{Found};
 ghost use Rattle.netlist.specs.File.{netIn};
 ghost use Rattle.order.specs.Order.{Complete};
-ghost use Rattle.columns.specs.Columns.{Columns};
+ghost use Rattle.columns.specs.Columns.{Columns, Widths};
 ghost use Rattle.plan.specs.Wiring.{Ready};
 ghost use Rattle.plan.specs.Plan.{PlanMade};
 
@@ -39,11 +39,13 @@ pub fn make_plan(
     sources: &mut [u16],
     codes: &[u8],
     reads: &[u16],
+    widths: &[u8],
 ) -> Plan
     requires { ⌜ Found (now file) (now tables) (now nodes) × Ready (netIn (now file) (now tables) (now nodes)) (now leads) (now roots) (now passes)
         × Columns (netIn (now file) (now tables) (now nodes)) (now codes) (now reads) (length (now nodes))
         × Complete inClock (netIn (now file) (now tables) (now nodes)) (now order)
-        × (length (now owners) ≡ 1024) × (length (now words) ≡ 1024) × (length (now sources) ≡ 3072) ⌝ }
+        × (length (now owners) ≡ 1024) × (length (now words) ≡ 1024) × (length (now sources) ≡ 3072)
+        × Widths (netIn (now file) (now tables) (now nodes)) (now widths) (length (now nodes)) ⌝ }
     ensures { λ r. ⌜ PlanMade (netIn (now (file .entry)) (now (tables .entry)) (now (nodes .entry))) (now (owners .exit)) (now (words .exit)) (now (sources .exit)) (r .entries) (r .total) ⌝ }
 {
     let mut ends = [65535u16; 3072];
@@ -74,6 +76,7 @@ pub fn make_plan(
         &mut copied,
         codes,
         reads,
+        widths,
     );
     let entries = place_entries(
         file,
@@ -127,6 +130,7 @@ pub fn make_plan(
         words,
         codes,
         reads,
+        widths,
     );
     Plan { entries, total }
 }

@@ -23,7 +23,7 @@ use Rattle.codec.specs.DecodeWithin.{decode-within}
 use Rattle.codec.specs.EncodeDecode.{tables-as-they-came}
 use Rattle.netlist.specs.declared.Scanned.{Scanned}
 use Rattle.netlist.specs.declared.Scanned.the-variants.{Fields}
-use Rattle.columns.specs.Columns.{Columns}
+use Rattle.columns.specs.Columns.{Columns, Widths}
 use Rattle.checks.specs.Open.{Open, Columned, columned}
 use Rattle.checks.specs.Opens.{decoded-as}
 use Rattle.behaviour.specs.Run.{zeroWord}
@@ -144,9 +144,10 @@ accepted-inside s out {n = n} e q = let l : lengthOf (Accepted n) ≡ lengthOf (
 
 -- ---- the columns that opening leaves
 
-columns-with : {s us vs codes sources widths : List ℕ} {t n : ℕ} → Columned s us vs codes sources widths (Fields t n) → Columns (netIn s (take t us) (take n vs)) codes sources (length (take n vs))
-columns-with (columned a b) = a
+columns-with : {s us vs codes sources widths : List ℕ} {t n : ℕ} → Columned s us vs codes sources widths (Fields t n)
+    → Columns (netIn s (take t us) (take n vs)) codes sources (length (take n vs)) × Widths (netIn s (take t us) (take n vs)) widths (length (take n vs))
+columns-with (columned a b) = (a, b)
 
 pub columns-of : {s us vs codes sources widths : List ℕ} {r : Scanned} {t n : ℕ} → Columned s us vs codes sources widths r → r ≡ Fields t n
-    → Columns (netIn s (take t us) (take n vs)) codes sources (length (take n vs))
+    → Columns (netIn s (take t us) (take n vs)) codes sources (length (take n vs)) × Widths (netIn s (take t us) (take n vs)) widths (length (take n vs))
 columns-of {s} {us} {vs} {codes} {sources} {widths} c e = columns-with (subst (Columned s us vs codes sources widths) e c)

@@ -22,7 +22,7 @@ ghost use Rattle.netlist.specs.Net.{inClock};
 ghost use Rattle.netlist.specs.Checks.{WellFormed};
 ghost use Rattle.netlist.specs.ScanLaws.{Found};
 ghost use Rattle.netlist.specs.File.{netIn, encode};
-ghost use Rattle.columns.specs.Columns.{Columns};
+ghost use Rattle.columns.specs.Columns.{Columns, Widths};
 ghost use Rattle.order.specs.Order.{Complete};
 ghost use Rattle.retiming.specs.Leads.{closedDebt};
 ghost use Rattle.retiming.specs.Rewrite.{rewritten};
@@ -97,11 +97,13 @@ fn rewrite_debtless(
     out: &mut [u8],
     codes: &[u8],
     reads: &[u16],
+    widths: &[u8],
 ) -> Answer
     requires { ⌜ Found (now file) (now tables) (now nodes) × WellFormed (netIn (now file) (now tables) (now nodes)) × TablesCame (now file) (now tables)
         × Complete inClock (netIn (now file) (now tables) (now nodes)) (now order) × LeadsIn (netIn (now file) (now tables) (now nodes)) (now leads)
         × (closedDebt (netIn (now file) (now tables) (now nodes)) ≡ false)
-        × Columns (netIn (now file) (now tables) (now nodes)) (now codes) (now reads) (length (now nodes)) ⌝ }
+        × Columns (netIn (now file) (now tables) (now nodes)) (now codes) (now reads) (length (now nodes))
+        × Widths (netIn (now file) (now tables) (now nodes)) (now widths) (length (now nodes)) ⌝ }
     ensures { λ r. ⌜ (r ≡ debtlessOutcome (netIn (now (file .entry)) (now (tables .entry)) (now (nodes .entry))) (now (out .entry)) .answer)
         × (now (out .exit) ≡ debtlessOutcome (netIn (now (file .entry)) (now (tables .entry)) (now (nodes .entry))) (now (out .entry)) .out) ⌝ }
 {
@@ -124,6 +126,7 @@ fn rewrite_debtless(
         &mut sources,
         codes,
         reads,
+        widths,
     );
     let entries = plan.entries;
     let total = plan.total;
@@ -154,17 +157,29 @@ fn rewrite_opened(
     out: &mut [u8],
     codes: &[u8],
     reads: &[u16],
+    widths: &[u8],
 ) -> Answer
     requires { ⌜ Found (now file) (now tables) (now nodes) × WellFormed (netIn (now file) (now tables) (now nodes)) × TablesCame (now file) (now tables)
         × Complete inClock (netIn (now file) (now tables) (now nodes)) (now order)
-        × Columns (netIn (now file) (now tables) (now nodes)) (now codes) (now reads) (length (now nodes)) ⌝ }
+        × Columns (netIn (now file) (now tables) (now nodes)) (now codes) (now reads) (length (now nodes))
+        × Widths (netIn (now file) (now tables) (now nodes)) (now widths) (length (now nodes)) ⌝ }
     ensures { λ r. ⌜ (r ≡ netOutcome (netIn (now (file .entry)) (now (tables .entry)) (now (nodes .entry))) (now (out .entry)) .answer)
         × (now (out .exit) ≡ netOutcome (netIn (now (file .entry)) (now (tables .entry)) (now (nodes .entry))) (now (out .entry)) .out) ⌝ }
 {
     let mut leads = [0u16; 1024];
     match find_leads(file, tables, nodes, order, &mut leads, codes, reads) {
         Verdict::Refuses(number, place) => Answer::Refused(number, place),
-        Verdict::Fine => rewrite_debtless(file, tables, nodes, order, &leads, out, codes, reads),
+        Verdict::Fine => rewrite_debtless(
+            file,
+            tables,
+            nodes,
+            order,
+            &leads,
+            out,
+            codes,
+            reads,
+            widths,
+        ),
     }
 }
 
@@ -196,6 +211,7 @@ pub fn rewrite_file(file: &[u8], out: &mut [u8]) -> Answer
             out,
             &codes,
             &reads,
+            &widths,
         ),
     }
 }

@@ -1,55 +1,40 @@
--- The word that a register or a clocked ROM holds next, in the words of the bytes of its field. Assumes nothing.
-use mathlib.Core.Path.{_≡_, refl, sym, ap, ap₂, subst, _∙_}
+-- The word that a register or a clocked ROM holds next, by its code. Assumes nothing.
+use mathlib.Core.Path.{_≡_, refl, sym, ap, _∙_}
 use mathlib.Core.Bool.{true, false≢true}
 use mathlib.Core.List.{List}
-use Prim.Native.Nat.{ℕ, _+_, _^_, _<_}
+use Prim.Native.Nat.{ℕ, _*_, _^_, _<_}
 use native.Mathlib.Omega.{arith}
-use lib.ListN.{length, getD}
+use lib.ListN.{getD}
 use lib.Dec.{lit<}
-use Rattle.words.specs.Words.{word}
-use Rattle.netlist.specs.Net.{Table, noTable, spelled, Net, size, nodeAt, elementAt, widthAt, source, holdsWord, operands, contentsIn, contentsAt, Sourced}
-use Rattle.netlist.specs.NodeField.{kindOf}
-use Rattle.netlist.specs.Checks.{Widths, HasTable, WellFormed}
+use Rattle.netlist.specs.Net.{Net, size, elementAt, widthAt, source, holdsWord, isMemory, operands, contentsAt, Sourced}
+use Rattle.netlist.specs.Checks.{WellFormed}
 use Rattle.netlist.specs.declared.Element.{Element}
 use Rattle.netlist.specs.declared.Element.the-variants.{Input, Output, Register, Async, Clocked, Gate}
+use Rattle.nodes.specs.Code.{codeOf}
+use Rattle.columns.specs.Columns.{Columns, source-is}
 use Rattle.behaviour.specs.Run.{holds-next}
 use Rattle.evaluate.specs.Rows.{rowTest}
-use Rattle.evaluate.specs.Spelling.{Spells}
-use Rattle.evaluate.specs.SpellingLaws.{Spelled}
 use Rattle.evaluate.specs.declared.Row.the-variants.{State}
 use Rattle.run.specs.Next.{nextWord, WordsFit}
 
--- ---- an element with these sources
+-- ---- an element
 
-module _ (ts : List Table) (s : List ℕ) (at : ℕ) (l ws : List ℕ) where
-  register-word : (e : Element) → holdsWord e ≡ true → kindOf e ≡ 2 → Spells s at e l → getD ws (word s (at + 5)) 0 ≡ holds-next (contentsIn ts e) e (λ p. getD ws (getD l p 0) 0)
-  register-word Input h k r = absurd (false≢true h)
-  register-word Output h k r = absurd (false≢true h)
-  register-word (Register q) h k r = ap (λ (u : ℕ). getD ws u 0) r
-  register-word (Async m) h k r = absurd (false≢true h)
-  register-word (Clocked m q) h k r = absurd (omega arith)
-  register-word (Gate o) h k r = absurd (false≢true h)
+module _ (M : List ℕ) (d : ℕ → ℕ) where
+  register-holds : (e : Element) → holdsWord e ≡ true → codeOf e ≡ 2 → d 0 ≡ holds-next M e d
+  register-holds Input h k = absurd (false≢true h)
+  register-holds Output h k = absurd (false≢true h)
+  register-holds (Register r) h k = refl
+  register-holds (Async m) h k = absurd (false≢true h)
+  register-holds (Clocked m r) h k = absurd (omega arith)
+  register-holds (Gate o) h k = absurd (false≢true h)
 
-  rom-word : (e : Element) → holdsWord e ≡ true → (kindOf e ≡ 2 → ⊥) → Spells s at e l
-      → getD (spelled (getD ts (getD s (at + 7) 0) noTable)) (getD ws (word s (at + 5)) 0) 0 ≡ holds-next (contentsIn ts e) e (λ p. getD ws (getD l p 0) 0)
-  unfolding contentsIn
-  rom-word Input h k r = absurd (false≢true h)
-  rom-word Output h k r = absurd (false≢true h)
-  rom-word (Register q) h k r = absurd (k refl)
-  rom-word (Async m) h k r = absurd (false≢true h)
-  rom-word (Clocked m q) h k r = ap₂ (λ (t u : ℕ). getD (spelled (getD ts t noTable)) (getD ws u 0) 0) (r .1) (r .0)
-  rom-word (Gate o) h k r = absurd (false≢true h)
-
-  -- the table is there, and the address in it
-  rom-address : (width : ℕ → ℕ) (e : Element) (w : ℕ) → holdsWord e ≡ true → (kindOf e ≡ 2 → ⊥) → Widths ts e w (λ p. width (getD l p 0)) → HasTable ts e
-      → getD ws (getD l 0 0) 0 < 2 ^ width (getD l 0 0) → Spells s at e l
-      → (getD s (at + 7) 0 < length ts) × (getD ws (word s (at + 5)) 0 < 2 ^ getD ts (getD s (at + 7) 0) noTable .bits)
-  rom-address width Input w h k r t f q = absurd (false≢true h)
-  rom-address width Output w h k r t f q = absurd (false≢true h)
-  rom-address width (Register x) w h k r t f q = absurd (k refl)
-  rom-address width (Async m) w h k r t f q = absurd (false≢true h)
-  rom-address width (Clocked m x) w h k r t f q = (omega (arith, q .1, t), rw (q .0, q .1) (subst (λ (b : ℕ). getD ws (getD l 0 0) 0 < 2 ^ b) (r .0) f))
-  rom-address width (Gate o) w h k r t f q = absurd (false≢true h)
+  rom-holds : (e : Element) → holdsWord e ≡ true → (codeOf e ≡ 2 → ⊥) → (isMemory e ≡ true) × (getD M (d 0) 0 ≡ holds-next M e d)
+  rom-holds Input h k = absurd (false≢true h)
+  rom-holds Output h k = absurd (false≢true h)
+  rom-holds (Register r) h k = absurd (k refl)
+  rom-holds (Async m) h k = absurd (false≢true h)
+  rom-holds (Clocked m r) h k = (refl, refl)
+  rom-holds (Gate o) h k = absurd (false≢true h)
 
 -- it has a source
 pub holder-reads : (e : Element) → holdsWord e ≡ true → 0 < operands e
@@ -60,20 +45,26 @@ holder-reads (Async m) h = absurd (false≢true h)
 holder-reads (Clocked m r) h = lit< tt
 holder-reads (Gate o) h = absurd (false≢true h)
 
--- ---- node v, whose field stands at an offset
+-- ---- node v by its columns; x is the word that it reads
 
-module _ (N : Net) (s : List ℕ) (at v : ℕ) (ws : List ℕ) (sp : Spelled s at (nodeAt N v)) (on : rowTest State N v ≡ true) where
-  pub next-register : getD s (at + 3) 0 ≡ 2 → getD ws (word s (at + 5)) 0 ≡ nextWord N ws v
-  unfolding contentsAt elementAt source
-  next-register k = register-word (N .tables) s at (nodeAt N v .sources) ws (elementAt N v) on (sym (sp .kind) ∙ k) (sp .rest)
+module _ {N : Net} {codes sources : List ℕ} {n : ℕ} (t : Columns N codes sources n) {v : ℕ} (h : v < n) (on : rowTest State N v ≡ true)
+    (ws : List ℕ) {x u : ℕ} (e : x ≡ getD ws u 0) (q : u ≡ getD sources (3 * v) 0) where
+  reads : x ≡ getD ws (source N v 0) 0
+  reads = e ∙ ap (λ (k : ℕ). getD ws k 0) (q ∙ source-is N t v 0 (3 * v) h (lit< tt) (omega arith))
 
-  module _ (not : getD s (at + 3) 0 ≡ 2 → ⊥) where
-    pub next-rom : getD (spelled (getD (N .tables) (getD s (at + 7) 0) noTable)) (getD ws (word s (at + 5)) 0) 0 ≡ nextWord N ws v
-    unfolding contentsAt elementAt source
-    next-rom = rom-word (N .tables) s at (nodeAt N v .sources) ws (elementAt N v) on (λ e. not (sp .kind ∙ e)) (sp .rest)
+  pub next-register : getD codes v 0 ≡ 2 → x ≡ nextWord N ws v
+  next-register k = reads ∙ register-holds (contentsAt N v) (λ p. getD ws (source N v p) 0) (elementAt N v) on (sym (t .code v h) ∙ k)
 
-    pub next-address : WellFormed N → v < size N → WordsFit N ws → (getD s (at + 7) 0 < length (N .tables)) × (getD ws (word s (at + 5)) 0 < 2 ^ getD (N .tables) (getD s (at + 7) 0) noTable .bits)
-    unfolding elementAt source Sourced
-    next-address wf h fit =
-        rom-address (N .tables) s at (nodeAt N v .sources) ws (widthAt N) (elementAt N v) (widthAt N v) on (λ e. not (sp .kind ∙ e)) (wf .widths v h) (wf .has-table v h)
-        (fit (source N v 0) (wf .sourced v 0 h (holder-reads (elementAt N v) on))) (sp .rest)
+  module _ (not : getD codes v 0 ≡ 2 → ⊥) where
+    holds : (isMemory (elementAt N v) ≡ true) × (getD (contentsAt N v) (getD ws (source N v 0) 0) 0 ≡ nextWord N ws v)
+    holds = rom-holds (contentsAt N v) (λ p. getD ws (source N v p) 0) (elementAt N v) on (λ k. not (t .code v h ∙ k))
+
+    pub next-memory : isMemory (elementAt N v) ≡ true
+    next-memory = holds .0
+
+    pub next-address : WellFormed N → v < size N → WordsFit N ws → x < 2 ^ widthAt N (source N v 0)
+    unfolding Sourced
+    next-address wf l fit = rw reads (fit (source N v 0) (wf .sourced v 0 l (holder-reads (elementAt N v) on)))
+
+    pub next-rom : getD (contentsAt N v) x 0 ≡ nextWord N ws v
+    next-rom = ap (λ (k : ℕ). getD (contentsAt N v) k 0) reads ∙ holds .1

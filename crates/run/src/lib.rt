@@ -2,13 +2,11 @@
 use areas::number_at;
 use checks::open_columns;
 use evaluate::Row;
-use evaluate::byte_at;
 use evaluate::evaluate;
 use evaluate::lent::count_row_by;
 use evaluate::lent::in_row_by;
 use evaluate::lent::load_row_by;
-use evaluate::operand;
-use evaluate::rom_word;
+use evaluate::memory_word;
 use index::node;
 use index::wide;
 use netlist::Answer;
@@ -108,23 +106,25 @@ fn reset_opened(
 // ---- run
 
 // The word that a register or a clocked ROM holds after the clock: its source's, or the table's word at its source's.
-pub fn next_word(file: &[u8], tables: &[u16], nodes: &[u16], v: usize, words: &[u16]) -> u16
+pub fn next_word(
+    file: &[u8],
+    tables: &[u16],
+    nodes: &[u16],
+    v: usize,
+    words: &[u16],
+    codes: &[u8],
+    sources: &[u16],
+) -> u16
     requires { ⌜ Found (now file) (now tables) (now nodes) × WellFormed (netIn (now file) (now tables) (now nodes)) × (v < length (now nodes))
-        × (rowTest Row.State (netIn (now file) (now tables) (now nodes)) v ≡ true) × WordsFit (netIn (now file) (now tables) (now nodes)) (now words) ⌝ }
+        × (rowTest Row.State (netIn (now file) (now tables) (now nodes)) v ≡ true) × WordsFit (netIn (now file) (now tables) (now nodes)) (now words)
+        × Columns (netIn (now file) (now tables) (now nodes)) (now codes) (now sources) (length (now nodes)) ⌝ }
     ensures { λ r. ⌜ r ≡ nextWord (netIn (now (file .entry)) (now (tables .entry)) (now (nodes .entry))) (now (words .entry)) v ⌝ }
 {
-    let at = wide(nodes[v]);
-    let word = operand(file, at + 5, words);
-    if byte_at(file, at + 3) == 2 {
+    let word = number_at(words, wide(sources[3 * v]));
+    if codes[v] == 2 {
         word
     } else {
-        rom_word(
-            file,
-            tables,
-            nodes,
-            byte_at(file, at + 7) as usize,
-            wide(word),
-        )
+        memory_word(file, tables, nodes, v, word)
     }
 }
 
@@ -148,7 +148,11 @@ fn store_state(
     let mut u: usize = 0;
     while u < nodes.len() {
         if in_row_by(file, tables, nodes, Row::State, u, codes, sources) {
-            put_word(state, at, next_word(file, tables, nodes, u, words));
+            put_word(
+                state,
+                at,
+                next_word(file, tables, nodes, u, words, codes, sources),
+            );
             at = at + 2;
             u = u + 1;
         } else {
@@ -230,7 +234,16 @@ fn run_opened(
                 sources,
                 widths,
             ) {
-                evaluate(file, tables, nodes, order, &mut words);
+                evaluate(
+                    file,
+                    tables,
+                    nodes,
+                    order,
+                    &mut words,
+                    codes,
+                    sources,
+                    widths,
+                );
                 store_outputs(file, tables, nodes, &words, outputs, codes, sources);
                 store_state(file, tables, nodes, &words, state, codes, sources);
                 Answer::Accepted(outputs.len())

@@ -14,19 +14,19 @@ use Rattle.evaluate.proofs.evaluate.Statement.{statement}
 use Rattle.evaluate.proofs.evaluate.Tie as tie
 
 abbrev Inv-loop : tie.InvT-loop
-Inv-loop file tables nodes order words₀ i₀ words i = (i ≤ length nodes) × Settling (netIn file tables nodes) order words₀ words i
+Inv-loop file tables nodes order words₀ codes sources widths i₀ words i = (i ≤ length nodes) × Settling (netIn file tables nodes) order words₀ words i
 
 abbrev μ-loop : tie.MeasureT-loop
-μ-loop file tables nodes order words₀ i₀ words i = length nodes - i
+μ-loop file tables nodes order words₀ codes sources widths i₀ words i = length nodes - i
 
 loop-holds : tie.Need-loop-holds Inv-loop μ-loop
 loop-holds c =
-    let a = c .before .before .before .before .before .args in
+    let a = c .before .before .before .before .before .before .before .before .args in
     let s = a .file .now in
     let ts = a .tables .now in
     let ns = a .nodes .now in
     let N = netIn s ts ns in
-    (omega arith, settle-none N (c .before .before .before .before .before .pre .1) (a .order .now) (a .words .now))
+    (omega arith, settle-none N (c .before .before .before .before .before .before .before .before .pre .1) (a .order .now) (a .words .now))
 
 number-at-requires : tie.Need-number-at-requires Inv-loop μ-loop
 number-at-requires c κs = search needs
@@ -36,7 +36,7 @@ wide-requires c κs = search needs
 
 node-word-requires : tie.Need-node-word-requires Inv-loop μ-loop
 node-word-requires c κs =
-    let a = c .before .before .before .before .before .before .before .before .before .before .before .args in
+    let a = c .before .before .before .before .before .before .before .before .before .before .before .before .before .before .args in
     let s = a .file .now in
     let ts = a .tables .now in
     let ns = a .nodes .now in
@@ -45,10 +45,13 @@ node-word-requires c κs =
     let l : c .before .before .before .before .before .loop .i < size N = omega (arith, c .before .before .before .before .loop-test .taken) in
     let t = c .before .before .before .before .before .loop .inv .1 in
     let e = c .before .before .wide .ensures .0 ∙ c .before .before .before .number-at .ensures in (
-      c .before .before .before .before .before .before .before .before .before .before .before .pre .0,
-      c .before .before .before .before .before .before .before .before .before .before .before .pre .1,
-      omega (arith, settle-inside (c .before .before .before .before .before .before .before .before .before .before .before .pre .1) (c .before .before .before .before .before .before .before .before .before .before .before .pre .2) t l),
-      subst (OperandsFit N (c .before .before .before .before .before .loop .words)) (sym e) (settle-fits (c .before .before .before .before .before .before .before .before .before .before .before .pre .1) (c .before .before .before .before .before .before .before .before .before .before .before .pre .2) t l (c .before .before .before .before .before .before .before .before .before .before .before .pre .4) (c .before .before .before .before .before .before .before .before .before .before .before .pre .5)),
+      c .before .before .before .before .before .before .before .before .before .before .before .before .before .before .pre .0,
+      c .before .before .before .before .before .before .before .before .before .before .before .before .before .before .pre .1,
+      omega (arith, settle-inside (c .before .before .before .before .before .before .before .before .before .before .before .before .before .before .pre .1) (c .before .before .before .before .before .before .before .before .before .before .before .before .before .before .pre .2) t l),
+      omega (arith, t .kept, c .before .before .before .before .before .before .before .before .before .before .before .before .before .before .pre .3),
+      subst (OperandsFit N (c .before .before .before .before .before .loop .words)) (sym e) (settle-fits (c .before .before .before .before .before .before .before .before .before .before .before .before .before .before .pre .1) (c .before .before .before .before .before .before .before .before .before .before .before .before .before .before .pre .2) t l (c .before .before .before .before .before .before .before .before .before .before .before .before .before .before .pre .4) (c .before .before .before .before .before .before .before .before .before .before .before .before .before .before .pre .5)),
+      c .before .before .before .before .before .before .before .before .before .before .before .before .before .before .pre .6,
+      c .before .before .before .before .before .before .before .before .before .before .before .before .before .before .pre .7,
     )
 
 put-number-requires : tie.Need-put-number-requires Inv-loop μ-loop
@@ -62,7 +65,7 @@ loop-less c = omega arith
 
 loop-again : tie.Need-loop-again Inv-loop μ-loop
 loop-again c =
-    let a = c .before .before .before .before .before .before .before .before .before .before .before .before .before .before .before .args in
+    let a = c .before .before .before .before .before .before .before .before .before .before .before .before .before .before .before .before .before .before .args in
     let s = a .file .now in
     let ts = a .tables .now in
     let ns = a .nodes .now in
@@ -72,7 +75,7 @@ loop-again c =
     let t = c .before .before .before .before .before .before .before .before .before .loop .inv .1 in
     let e = c .before .before .before .before .before .before .wide .ensures .0 ∙ c .before .before .before .before .before .before .before .number-at .ensures in
     let x = c .before .before .before .node-word .result in
-    let more = settle-more (c .before .before .before .before .before .before .before .before .before .before .before .before .before .before .before .pre .1) (c .before .before .before .before .before .before .before .before .before .before .before .before .before .before .before .pre .2) t l x (c .before .before .before .node-word .ensures ∙ ap (nodeWord N (c .before .before .before .before .before .before .before .before .before .loop .words)) e) (omega (arith, c .before .before .before .before .before .before .before .before .before .before .before .before .before .before .before .pre .3)) in
+    let more = settle-more (c .before .before .before .before .before .before .before .before .before .before .before .before .before .before .before .before .before .before .pre .1) (c .before .before .before .before .before .before .before .before .before .before .before .before .before .before .before .before .before .before .pre .2) t l x (c .before .before .before .node-word .ensures ∙ ap (nodeWord N (c .before .before .before .before .before .before .before .before .before .loop .words)) e) (omega (arith, c .before .before .before .before .before .before .before .before .before .before .before .before .before .before .before .before .before .before .pre .3)) in
     (omega arith, subst (λ (ws : List ℕ). Settling N (a .order .now) (a .words .now) ws (c .before .before .before .before .before .before .before .before .before .loop .i + 1)) (sym (c .before .before .put-number .ensures ∙ ap (λ (v : ℕ). set (c .before .before .before .before .before .before .before .before .before .loop .words) v x) e)) more)
 
 same-length : tie.Need-same-length Inv-loop μ-loop
@@ -80,11 +83,11 @@ same-length c = c .before .loop .inv .1 .kept
 
 returns : tie.Need-returns Inv-loop μ-loop
 returns c =
-    let a = c .before .before .before .before .before .before .before .args in
+    let a = c .before .before .before .before .before .before .before .before .before .before .args in
     let s = a .file .now in
     let ts = a .tables .now in
     let ns = a .nodes .now in
-    settle-all (c .before .before .before .before .before .before .before .pre .1) (c .before .before .before .before .before .before .before .pre .2) (c .before .loop .inv .1) (let z = size-in s ts ns in omega arith)
+    settle-all (c .before .before .before .before .before .before .before .before .before .before .pre .1) (c .before .before .before .before .before .before .before .before .before .before .pre .2) (c .before .loop .inv .1) (let z = size-in s ts ns in omega arith)
 
 pub evaluate-spec : {M : Type 1} → statement M
 evaluate-spec =

@@ -1,7 +1,7 @@
 -- The loop's invariant: the words of clock t are loaded, and those of the clocks before it are taken.
 use mathlib.Core.Path.{_≡_, refl, sym, ap, subst, _∙_}
 use mathlib.Core.List.{List}
-use Prim.Native.Nat.{ℕ, _+_, _-_, _≤_}
+use Prim.Native.Nat.{ℕ, _+_, _-_, _≤_, _<_}
 use native.Mathlib.Omega.{arith}
 use lib.ListN.{length, length-replicate}
 use borrow.Author.Needs.{needs}
@@ -13,10 +13,10 @@ use Rattle.first_clocks.proofs.first_words.Statement.{statement}
 use Rattle.first_clocks.proofs.first_words.Tie as tie
 
 abbrev Inv-loop : tie.InvT-loop
-Inv-loop file tables nodes order roots passes clocks wanted found₀ codes reads words₀ next₀ limit t₀ found words next t = (t ≤ limit) × (length found ≡ length found₀) × (length words ≡ 1024) × (length next ≡ 1024) × Loads (netIn file tables nodes) t words × TakenBefore (netIn file tables nodes) passes clocks wanted found₀ found t
+Inv-loop file tables nodes order roots passes clocks wanted found₀ codes sources widths words₀ next₀ limit t₀ found words next t = (t ≤ limit) × (length found ≡ length found₀) × (length words ≡ 1024) × (length next ≡ 1024) × (t < limit → Loads (netIn file tables nodes) t words) × TakenBefore (netIn file tables nodes) passes clocks wanted found₀ found t
 
 abbrev μ-loop : tie.MeasureT-loop
-μ-loop file tables nodes order roots passes clocks wanted found₀ codes reads words₀ next₀ limit t₀ found words next t = limit - t
+μ-loop file tables nodes order roots passes clocks wanted found₀ codes sources widths words₀ next₀ limit t₀ found words next t = limit - t
 
 clocks-to-run-requires : tie.Need-clocks-to-run-requires Inv-loop μ-loop
 clocks-to-run-requires c κs = search needs
@@ -25,19 +25,19 @@ slice-aggregate-load-reset : tie.Need-slice-aggregate-load-reset Inv-loop μ-loo
 slice-aggregate-load-reset c = search needs
 
 load-reset-requires : tie.Need-load-reset-requires Inv-loop μ-loop
-load-reset-requires c κs = (c .before .before .before .before .before .before .before .before .before .before .before .before .before .pre .0, c .before .before .before .before .before .before .before .before .before .before .before .before .before .pre .1, omega (arith, c .before .before .before .before .before .before .before .before .before .before .before .before .before .pre .0 .few-nodes, length-replicate {A = ℕ} 1024 0))
+load-reset-requires c κs = (c .before .before .before .before .before .before .before .before .before .before .before .before .before .before .pre .0, c .before .before .before .before .before .before .before .before .before .before .before .before .before .before .pre .1, omega (arith, c .before .before .before .before .before .before .before .before .before .before .before .before .before .before .pre .0 .few-nodes, length-replicate {A = ℕ} 1024 0), c .before .before .before .before .before .before .before .before .before .before .before .before .before .before .pre .4)
 
 loop-holds : tie.Need-loop-holds Inv-loop μ-loop
-loop-holds c = (omega arith, refl, c .before .load-reset .kept .1 .1 .1 .0 ∙ length-replicate {A = ℕ} 1024 0, length-replicate {A = ℕ} 1024 0, c .before .load-reset .ensures, taken-none _ _ _ _ _)
+loop-holds c = (omega arith, refl, c .before .load-reset .kept .1 .1 .1 .0 ∙ length-replicate {A = ℕ} 1024 0, length-replicate {A = ℕ} 1024 0, λ l. c .before .load-reset .ensures, taken-none _ _ _ _ _)
 
 slice-aggregate-evaluate : tie.Need-slice-aggregate-evaluate Inv-loop μ-loop
 slice-aggregate-evaluate c = sym (c .before .before .loop .inv .2)
 
 evaluate-requires : tie.Need-evaluate-requires Inv-loop μ-loop
-evaluate-requires c κs = let a = c .before .before .before .before .before .before .before .before .before .before .before .before .before .before .before .before .before .before .args in
+evaluate-requires c κs = let a = c .before .before .before .before .before .before .before .before .before .before .before .before .before .before .before .before .before .before .before .args in
     let N = netIn (a .file .now) (a .tables .now) (a .nodes .now) in
-    let f = row-fits N (c .before .before .before .before .before .before .before .before .before .before .before .before .before .before .before .before .before .before .pre .1) (c .before .before .loop .t) (c .before .before .loop .words) (c .before .before .loop .inv .4) in
-    (c .before .before .before .before .before .before .before .before .before .before .before .before .before .before .before .before .before .before .pre .0, c .before .before .before .before .before .before .before .before .before .before .before .before .before .before .before .before .before .before .pre .1, c .before .before .before .before .before .before .before .before .before .before .before .before .before .before .before .before .before .before .pre .2, omega (arith, c .before .before .before .before .before .before .before .before .before .before .before .before .before .before .before .before .before .before .pre .0 .few-nodes, c .before .before .loop .inv .2), f .0, f .1)
+    let f = row-fits N (c .before .before .before .before .before .before .before .before .before .before .before .before .before .before .before .before .before .before .before .pre .1) (c .before .before .loop .t) (c .before .before .loop .words) (c .before .before .loop .inv .4 (c .before .loop-test .taken)) in
+    (c .before .before .before .before .before .before .before .before .before .before .before .before .before .before .before .before .before .before .before .pre .0, c .before .before .before .before .before .before .before .before .before .before .before .before .before .before .before .before .before .before .before .pre .1, c .before .before .before .before .before .before .before .before .before .before .before .before .before .before .before .before .before .before .before .pre .2, omega (arith, c .before .before .before .before .before .before .before .before .before .before .before .before .before .before .before .before .before .before .before .pre .0 .few-nodes, c .before .before .loop .inv .2), f .0, f .1, c .before .before .before .before .before .before .before .before .before .before .before .before .before .before .before .before .before .before .before .pre .4, c .before .before .before .before .before .before .before .before .before .before .before .before .before .before .before .before .before .before .before .pre .7)
 
 cast-take-due : tie.Need-cast-take-due Inv-loop μ-loop
 cast-take-due c = omega (arith, c .before .before .before .loop-test .taken, c .before .before .before .before .before .before .before .before .clocks-to-run .ensures .0)
@@ -46,47 +46,55 @@ slice-aggregate-take-due : tie.Need-slice-aggregate-take-due Inv-loop μ-loop
 slice-aggregate-take-due c = sym (c .before .before .evaluate .kept .1 .1 .1 .1 .0 ∙ c .before .before .before .before .before .loop .inv .2)
 
 take-due-requires : tie.Need-take-due-requires Inv-loop μ-loop
-take-due-requires c κs = let a = c .before .before .before .before .before .before .before .before .before .before .before .before .before .before .before .before .before .before .before .before .before .before .args in
+take-due-requires c κs = let a = c .before .before .before .before .before .before .before .before .before .before .before .before .before .before .before .before .before .before .before .before .before .before .before .args in
     let N = netIn (a .file .now) (a .tables .now) (a .nodes .now) in
-    (c .before .before .before .before .before .before .before .before .before .before .before .before .before .before .before .before .before .before .before .before .before .before .pre .0, c .before .before .before .before .before .before .before .before .before .before .before .before .before .before .before .before .before .before .before .before .before .before .pre .1, c .before .before .before .before .before .before .before .before .before .before .before .before .before .before .before .before .before .before .before .before .before .before .pre .3, c .before .before .before .before .before .before .before .before .before .before .before .before .before .before .before .before .before .before .before .before .before .before .pre .4, c .before .before .before .before .before .before .before .before .before .before .before .before .before .before .before .before .before .before .before .before .before .before .pre .5, words-at N (c .before .before .before .before .before .before .before .before .before .before .before .before .before .before .before .before .before .before .before .before .before .before .pre .1) (c .before .before .before .before .before .before .loop .t) (c .before .before .before .before .before .before .loop .words) (c .before .before .before .before .before .before .loop .inv .4) (c .before .before .before .evaluate .ensures), omega (arith, c .before .before .before .before .before .before .loop .inv .1, c .before .before .before .before .before .before .before .before .before .before .before .before .before .before .before .before .before .before .before .before .before .before .pre .6))
-
-slice-aggregate-load-next : tie.Need-slice-aggregate-load-next Inv-loop μ-loop
-slice-aggregate-load-next c = sym (c .before .before .before .before .before .before .before .evaluate .kept .1 .1 .1 .1 .0 ∙ c .before .before .before .before .before .before .before .before .before .before .loop .inv .2)
-
-slice-aggregate-load-next-2 : tie.Need-slice-aggregate-load-next-2 Inv-loop μ-loop
-slice-aggregate-load-next-2 c = sym (c .before .before .before .before .before .before .before .before .before .before .before .loop .inv .3)
-
-load-next-requires : tie.Need-load-next-requires Inv-loop μ-loop
-load-next-requires c κs = let a = c .before .before .before .before .before .before .before .before .before .before .before .before .before .before .before .before .before .before .before .before .before .before .before .before .before .before .before .args in
-    let N = netIn (a .file .now) (a .tables .now) (a .nodes .now) in
-    (c .before .before .before .before .before .before .before .before .before .before .before .before .before .before .before .before .before .before .before .before .before .before .before .before .before .before .before .pre .0, c .before .before .before .before .before .before .before .before .before .before .before .before .before .before .before .before .before .before .before .before .before .before .before .before .before .before .before .pre .1, omega (arith, c .before .before .before .before .before .before .before .before .before .before .before .before .before .before .before .before .before .before .before .before .before .before .before .before .before .before .before .pre .0 .few-nodes, c .before .before .before .before .before .before .before .before .before .before .before .loop .inv .3), clock-fits N (c .before .before .before .before .before .before .before .before .before .before .before .before .before .before .before .before .before .before .before .before .before .before .before .before .before .before .before .pre .1) (c .before .before .before .before .before .before .before .before .before .before .before .loop .t) (c .before .before .before .before .before .before .before .before .before .before .before .loop .inv .4) (c .before .before .before .before .before .before .before .before .evaluate .ensures))
-
-slice-aggregate-copy : tie.Need-slice-aggregate-copy Inv-loop μ-loop
-slice-aggregate-copy c = sym (c .before .before .load-next .kept .1 .1 .1 .1 .0 ∙ c .before .before .before .before .before .before .before .before .before .before .before .before .before .before .loop .inv .3)
-
-slice-aggregate-copy-2 : tie.Need-slice-aggregate-copy-2 Inv-loop μ-loop
-slice-aggregate-copy-2 c = sym (c .before .before .before .before .before .before .before .before .before .before .before .before .evaluate .kept .1 .1 .1 .1 .0 ∙ c .before .before .before .before .before .before .before .before .before .before .before .before .before .before .before .loop .inv .2)
-
-copy-requires : tie.Need-copy-requires Inv-loop μ-loop
-copy-requires c κs = c .before .before .before .load-next .kept .1 .1 .1 .1 .0 ∙ c .before .before .before .before .before .before .before .before .before .before .before .before .before .before .before .loop .inv .3 ∙ sym (c .before .before .before .before .before .before .before .before .before .before .before .before .evaluate .kept .1 .1 .1 .1 .0 ∙ c .before .before .before .before .before .before .before .before .before .before .before .before .before .before .before .loop .inv .2)
+    (c .before .before .before .before .before .before .before .before .before .before .before .before .before .before .before .before .before .before .before .before .before .before .before .pre .0, c .before .before .before .before .before .before .before .before .before .before .before .before .before .before .before .before .before .before .before .before .before .before .before .pre .1, c .before .before .before .before .before .before .before .before .before .before .before .before .before .before .before .before .before .before .before .before .before .before .before .pre .3, c .before .before .before .before .before .before .before .before .before .before .before .before .before .before .before .before .before .before .before .before .before .before .before .pre .4, c .before .before .before .before .before .before .before .before .before .before .before .before .before .before .before .before .before .before .before .before .before .before .before .pre .5, words-at N (c .before .before .before .before .before .before .before .before .before .before .before .before .before .before .before .before .before .before .before .before .before .before .before .pre .1) (c .before .before .before .before .before .before .loop .t) (c .before .before .before .before .before .before .loop .words) (c .before .before .before .before .before .before .loop .inv .4 (c .before .before .before .before .before .loop-test .taken)) (c .before .before .before .evaluate .ensures), omega (arith, c .before .before .before .before .before .before .loop .inv .1, c .before .before .before .before .before .before .before .before .before .before .before .before .before .before .before .before .before .before .before .before .before .before .before .pre .6))
 
 add-t : tie.Need-add-t Inv-loop μ-loop
-add-t c = omega (arith, c .before .before .before .before .before .before .before .before .before .before .before .before .before .before .before .before .loop-test .taken, c .before .before .before .before .before .before .before .before .before .before .before .before .before .before .before .before .before .before .before .before .before .clocks-to-run .ensures .0)
+add-t c = omega (arith, c .before .before .before .before .before .before .before .before .loop-test .taken, c .before .before .before .before .before .before .before .before .before .before .before .before .before .clocks-to-run .ensures .0)
+
+slice-aggregate-load-next : tie.Need-slice-aggregate-load-next Inv-loop μ-loop
+slice-aggregate-load-next c = sym (c .before .before .before .before .before .before .before .before .evaluate .kept .1 .1 .1 .1 .0 ∙ c .before .before .before .before .before .before .before .before .before .before .before .loop .inv .2)
+
+slice-aggregate-load-next-2 : tie.Need-slice-aggregate-load-next-2 Inv-loop μ-loop
+slice-aggregate-load-next-2 c = sym (c .before .before .before .before .before .before .before .before .before .before .before .before .loop .inv .3)
+
+load-next-requires : tie.Need-load-next-requires Inv-loop μ-loop
+load-next-requires c κs = let a = c .before .before .before .before .before .before .before .before .before .before .before .before .before .before .before .before .before .before .before .before .before .before .before .before .before .before .before .before .before .args in
+    let N = netIn (a .file .now) (a .tables .now) (a .nodes .now) in
+    (c .before .before .before .before .before .before .before .before .before .before .before .before .before .before .before .before .before .before .before .before .before .before .before .before .before .before .before .before .before .pre .0, c .before .before .before .before .before .before .before .before .before .before .before .before .before .before .before .before .before .before .before .before .before .before .before .before .before .before .before .before .before .pre .1, omega (arith, c .before .before .before .before .before .before .before .before .before .before .before .before .before .before .before .before .before .before .before .before .before .before .before .before .before .before .before .before .before .pre .0 .few-nodes, c .before .before .before .before .before .before .before .before .before .before .before .before .loop .inv .3), clock-fits N (c .before .before .before .before .before .before .before .before .before .before .before .before .before .before .before .before .before .before .before .before .before .before .before .before .before .before .before .before .before .pre .1) (c .before .before .before .before .before .before .before .before .before .before .before .before .loop .t) (c .before .before .before .before .before .before .before .before .before .before .before .before .loop .inv .4 (c .before .before .before .before .before .before .before .before .before .before .before .loop-test .taken)) (c .before .before .before .before .before .before .before .before .before .evaluate .ensures), c .before .before .before .before .before .before .before .before .before .before .before .before .before .before .before .before .before .before .before .before .before .before .before .before .before .before .before .before .before .pre .4)
+
+slice-aggregate-copy : tie.Need-slice-aggregate-copy Inv-loop μ-loop
+slice-aggregate-copy c = sym (c .before .before .load-next .kept .1 .1 .1 .1 .0 ∙ c .before .before .before .before .before .before .before .before .before .before .before .before .before .before .before .loop .inv .3)
+
+slice-aggregate-copy-2 : tie.Need-slice-aggregate-copy-2 Inv-loop μ-loop
+slice-aggregate-copy-2 c = sym (c .before .before .before .before .before .before .before .before .before .before .before .before .before .evaluate .kept .1 .1 .1 .1 .0 ∙ c .before .before .before .before .before .before .before .before .before .before .before .before .before .before .before .before .loop .inv .2)
+
+copy-requires : tie.Need-copy-requires Inv-loop μ-loop
+copy-requires c κs = c .before .before .before .load-next .kept .1 .1 .1 .1 .0 ∙ c .before .before .before .before .before .before .before .before .before .before .before .before .before .before .before .before .loop .inv .3 ∙ sym (c .before .before .before .before .before .before .before .before .before .before .before .before .before .evaluate .kept .1 .1 .1 .1 .0 ∙ c .before .before .before .before .before .before .before .before .before .before .before .before .before .before .before .before .loop .inv .2)
 
 loop-less : tie.Need-loop-less Inv-loop μ-loop
-loop-less c = omega (arith, c .before .before .before .before .before .before .before .before .before .before .before .before .before .before .before .before .loop-test .taken)
+loop-less c = omega (arith, c .before .before .before .before .before .before .before .before .before .before .before .before .before .before .before .before .before .loop-test .taken)
 
 loop-again : tie.Need-loop-again Inv-loop μ-loop
-loop-again c = let a = c .before .before .before .before .before .before .before .before .before .before .before .before .before .before .before .before .before .before .before .before .before .before .before .before .before .before .before .before .before .before .before .before .before .args in
+loop-again c = let a = c .before .before .before .before .before .before .before .before .before .before .before .before .before .before .before .before .before .before .before .before .before .before .before .before .before .before .before .before .before .before .before .before .before .before .before .args in
     let N = netIn (a .file .now) (a .tables .now) (a .nodes .now) in
-    let w = words-at N (c .before .before .before .before .before .before .before .before .before .before .before .before .before .before .before .before .before .before .before .before .before .before .before .before .before .before .before .before .before .before .before .before .before .pre .1) (c .before .before .before .before .before .before .before .before .before .before .before .before .before .before .before .before .before .loop .t) (c .before .before .before .before .before .before .before .before .before .before .before .before .before .before .before .before .before .loop .words) (c .before .before .before .before .before .before .before .before .before .before .before .before .before .before .before .before .before .loop .inv .4) (c .before .before .before .before .before .before .before .before .before .before .before .before .before .before .evaluate .ensures) in
-    (omega (arith, c .before .before .before .before .before .before .before .before .before .before .before .before .before .before .before .before .loop-test .taken), c .before .before .before .before .before .before .before .before .before .before .take-due .kept .1 .1 .1 .1 .1 .1 .1 .1 .1 .0 ∙ c .before .before .before .before .before .before .before .before .before .before .before .before .before .before .before .before .before .loop .inv .1, c .before .copy .kept .1 .0 ∙ c .before .before .before .before .before .before .before .before .before .before .before .before .before .before .evaluate .kept .1 .1 .1 .1 .0 ∙ c .before .before .before .before .before .before .before .before .before .before .before .before .before .before .before .before .before .loop .inv .2, c .before .before .before .before .before .load-next .kept .1 .1 .1 .1 .0 ∙ c .before .before .before .before .before .before .before .before .before .before .before .before .before .before .before .before .before .loop .inv .3, subst (λ (l : List ℕ). Loads N (c .before .before .before .before .before .before .before .before .before .before .before .before .before .before .before .before .before .loop .t + 1) l) (sym (c .before .copy .ensures)) (c .before .before .before .before .before .load-next .ensures (c .before .before .before .before .before .before .before .before .before .before .before .before .before .before .before .before .before .loop .t) w), taken-more N (a .passes .now) (a .clocks .now) (a .wanted .now) (a .found .now) (c .before .before .before .before .before .before .before .before .before .before .before .before .before .before .before .before .before .loop .inv .5) (c .before .before .before .before .before .before .before .before .before .before .take-due .ensures))
+    let w = words-at N (c .before .before .before .before .before .before .before .before .before .before .before .before .before .before .before .before .before .before .before .before .before .before .before .before .before .before .before .before .before .before .before .before .before .before .before .pre .1) (c .before .before .before .before .before .before .before .before .before .before .before .before .before .before .before .before .before .before .loop .t) (c .before .before .before .before .before .before .before .before .before .before .before .before .before .before .before .before .before .before .loop .words) (c .before .before .before .before .before .before .before .before .before .before .before .before .before .before .before .before .before .before .loop .inv .4 (c .before .before .before .before .before .before .before .before .before .before .before .before .before .before .before .before .before .loop-test .taken)) (c .before .before .before .before .before .before .before .before .before .before .before .before .before .before .before .evaluate .ensures) in
+    (omega (arith, c .before .before .before .before .before .before .before .before .before .before .before .before .before .before .before .before .before .loop-test .taken), c .before .before .before .before .before .before .before .before .before .before .before .take-due .kept .1 .1 .1 .1 .1 .1 .1 .1 .1 .0 ∙ c .before .before .before .before .before .before .before .before .before .before .before .before .before .before .before .before .before .before .loop .inv .1, c .before .copy .kept .1 .0 ∙ c .before .before .before .before .before .before .before .before .before .before .before .before .before .before .before .evaluate .kept .1 .1 .1 .1 .0 ∙ c .before .before .before .before .before .before .before .before .before .before .before .before .before .before .before .before .before .before .loop .inv .2, c .before .before .before .before .before .load-next .kept .1 .1 .1 .1 .0 ∙ c .before .before .before .before .before .before .before .before .before .before .before .before .before .before .before .before .before .before .loop .inv .3, λ l. subst (λ (ws : List ℕ). Loads N (c .before .before .before .before .before .before .before .before .before .before .before .before .before .before .before .before .before .before .loop .t + 1) ws) (sym (c .before .copy .ensures)) (c .before .before .before .before .before .load-next .ensures (c .before .before .before .before .before .before .before .before .before .before .before .before .before .before .before .before .before .before .loop .t) w), taken-more N (a .passes .now) (a .clocks .now) (a .wanted .now) (a .found .now) (c .before .before .before .before .before .before .before .before .before .before .before .before .before .before .before .before .before .before .loop .inv .5) (c .before .before .before .before .before .before .before .before .before .before .before .take-due .ensures))
+
+loop-less-2 : tie.Need-loop-less-2 Inv-loop μ-loop
+loop-less-2 c = omega (arith, c .before .before .before .before .before .before .before .before .before .loop-test .taken)
+
+loop-again-2 : tie.Need-loop-again-2 Inv-loop μ-loop
+loop-again-2 c = let a = c .before .before .before .before .before .before .before .before .before .before .before .before .before .before .before .before .before .before .before .before .before .before .before .before .before .before .before .args in
+    let N = netIn (a .file .now) (a .tables .now) (a .nodes .now) in
+    (omega (arith, c .before .before .before .before .before .before .before .before .before .loop-test .taken), c .before .before .before .take-due .kept .1 .1 .1 .1 .1 .1 .1 .1 .1 .0 ∙ c .before .before .before .before .before .before .before .before .before .before .loop .inv .1, c .before .before .before .before .before .before .before .evaluate .kept .1 .1 .1 .1 .0 ∙ c .before .before .before .before .before .before .before .before .before .before .loop .inv .2, c .before .before .before .before .before .before .before .before .before .before .loop .inv .3, λ l. absurd (omega (arith, c .if1 .left)), taken-more N (a .passes .now) (a .clocks .now) (a .wanted .now) (a .found .now) (c .before .before .before .before .before .before .before .before .before .before .loop .inv .5) (c .before .before .before .take-due .ensures))
 
 same-length : tie.Need-same-length Inv-loop μ-loop
 same-length c = c .before .loop .inv .1
 
 returns : tie.Need-returns Inv-loop μ-loop
-returns c = let a = c .before .before .before .before .before .before .before .before .before .before .before .before .before .before .before .before .before .args in
+returns c = let a = c .before .before .before .before .before .before .before .before .before .before .before .before .before .before .before .before .before .before .args in
     let N = netIn (a .file .now) (a .tables .now) (a .nodes .now) in
     let e : c .before .loop .t ≡ c .before .before .before .before .before .clocks-to-run .result = omega (arith, c .before .loop .inv .0, c .loop-test .left) in
     taken-all N (a .passes .now) (a .clocks .now) (a .wanted .now) (a .found .now) (subst (TakenBefore N (a .passes .now) (a .clocks .now) (a .wanted .now) (a .found .now) (c .before .loop .found)) e (c .before .loop .inv .5)) (c .before .before .before .before .before .clocks-to-run .ensures .1)
@@ -106,14 +114,16 @@ first-words-spec =
     cast-take-due
     slice-aggregate-take-due
     take-due-requires
+    add-t
     slice-aggregate-load-next
     slice-aggregate-load-next-2
     load-next-requires
     slice-aggregate-copy
     slice-aggregate-copy-2
     copy-requires
-    add-t
     loop-less
     loop-again
+    loop-less-2
+    loop-again-2
     same-length
     returns)

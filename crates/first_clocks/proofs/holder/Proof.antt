@@ -16,10 +16,10 @@ use Rattle.first_clocks.proofs.holder.Statement.{statement}
 use Rattle.first_clocks.proofs.holder.Tie as tie
 
 abbrev Inv-loop : tie.InvT-loop
-Inv-loop file tables nodes roots passes v clock codes reads u₀ left₀ u left = (u < length nodes) × (left < passed (netIn file tables nodes) u) × (zeroWord (netIn file tables nodes) clock v ≡ zeroWord (netIn file tables nodes) left u) × (left ≤ clock)
+Inv-loop file tables nodes roots passes v clock codes sources u₀ left₀ u left = (u < length nodes) × (left < passed (netIn file tables nodes) u) × (zeroWord (netIn file tables nodes) clock v ≡ zeroWord (netIn file tables nodes) left u) × (left ≤ clock)
 
 abbrev μ-loop : tie.MeasureT-loop
-μ-loop file tables nodes roots passes v clock codes reads u₀ left₀ u left = left
+μ-loop file tables nodes roots passes v clock codes sources u₀ left₀ u left = left
 
 number-at-requires : tie.Need-number-at-requires Inv-loop μ-loop
 number-at-requires c κs = search needs

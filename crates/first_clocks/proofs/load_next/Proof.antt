@@ -12,16 +12,16 @@ use Rattle.first_clocks.proofs.load_next.Statement.{statement}
 use Rattle.first_clocks.proofs.load_next.Tie as tie
 
 abbrev Inv-loop : tie.InvT-loop
-Inv-loop file tables nodes words next₀ v₀ next v = (v ≤ length nodes) × (length next ≡ length next₀) × ((t : ℕ) → WordsAt (netIn file tables nodes) t words → LoadedTo (netIn file tables nodes) (t + 1) next v)
+Inv-loop file tables nodes words next₀ codes sources v₀ next v = (v ≤ length nodes) × (length next ≡ length next₀) × ((t : ℕ) → WordsAt (netIn file tables nodes) t words → LoadedTo (netIn file tables nodes) (t + 1) next v)
 
 abbrev μ-loop : tie.MeasureT-loop
-μ-loop file tables nodes words next₀ v₀ next v = length nodes - v
+μ-loop file tables nodes words next₀ codes sources v₀ next v = length nodes - v
 
 loop-holds : tie.Need-loop-holds Inv-loop μ-loop
 loop-holds c = (omega arith, refl, λ t w v l. absurd (omega arith))
 
 begins-with-requires : tie.Need-begins-with-requires Inv-loop μ-loop
-begins-with-requires c κs = (c .before .before .before .before .before .before .before .before .pre .0, c .before .before .before .before .before .before .before .before .pre .1, c .before .loop-test .taken, c .before .before .before .before .before .before .before .before .pre .3)
+begins-with-requires c κs = (c .before .before .before .before .before .before .before .before .before .before .pre .0, c .before .before .before .before .before .before .before .before .before .before .pre .1, c .before .loop-test .taken, c .before .before .before .before .before .before .before .before .before .before .pre .3, c .before .before .before .before .before .before .before .before .before .before .pre .4)
 
 put-number-requires : tie.Need-put-number-requires Inv-loop μ-loop
 put-number-requires c κs = search needs
@@ -33,15 +33,15 @@ loop-less : tie.Need-loop-less Inv-loop μ-loop
 loop-less c = omega (arith, c .before .before .before .before .before .loop-test .taken)
 
 loop-again : tie.Need-loop-again Inv-loop μ-loop
-loop-again c = let a = c .before .before .before .before .before .before .before .before .before .before .before .before .args in
+loop-again c = let a = c .before .before .before .before .before .before .before .before .before .before .before .before .before .before .args in
     let N = netIn (a .file .now) (a .tables .now) (a .nodes .now) in
-    (omega (arith, c .before .before .before .before .before .loop-test .taken), c .before .before .put-number .kept .0 ∙ c .before .before .before .before .before .before .loop .inv .1, λ t w. load-more N (t + 1) (c .before .before .before .before .before .before .loop .next) (c .before .before .before .before .before .before .loop .inv .2 t w) (omega (arith, c .before .before .before .before .before .before .loop .inv .1, c .before .before .before .before .before .before .before .before .before .before .before .before .pre .2, c .before .before .before .before .before .loop-test .taken)) (c .before .before .put-number .ensures) (c .before .before .before .begins-with .ensures t w))
+    (omega (arith, c .before .before .before .before .before .loop-test .taken), c .before .before .put-number .kept .0 ∙ c .before .before .before .before .before .before .loop .inv .1, λ t w. load-more N (t + 1) (c .before .before .before .before .before .before .loop .next) (c .before .before .before .before .before .before .loop .inv .2 t w) (omega (arith, c .before .before .before .before .before .before .loop .inv .1, c .before .before .before .before .before .before .before .before .before .before .before .before .before .before .pre .2, c .before .before .before .before .before .loop-test .taken)) (c .before .before .put-number .ensures) (c .before .before .before .begins-with .ensures t w))
 
 same-length : tie.Need-same-length Inv-loop μ-loop
 same-length c = c .before .loop .inv .1
 
 returns : tie.Need-returns Inv-loop μ-loop
-returns c = let a = c .before .before .before .before .before .before .before .args in
+returns c = let a = c .before .before .before .before .before .before .before .before .before .args in
     let z = size-in (a .file .now) (a .tables .now) (a .nodes .now) in
     λ t w v h. c .before .loop .inv .2 t w v (omega (arith, c .loop-test .left))
 

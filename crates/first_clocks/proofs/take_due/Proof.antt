@@ -10,10 +10,10 @@ use Rattle.first_clocks.proofs.take_due.Statement.{statement}
 use Rattle.first_clocks.proofs.take_due.Tie as tie
 
 abbrev Inv-loop : tie.InvT-loop
-Inv-loop file tables nodes roots passes t clocks wanted words found₀ codes reads k₀ found k = (k ≤ length clocks) × (length found ≡ length found₀) × TakenTo (netIn file tables nodes) passes clocks wanted t found₀ found k
+Inv-loop file tables nodes roots passes t clocks wanted words found₀ codes sources k₀ found k = (k ≤ length clocks) × (length found ≡ length found₀) × TakenTo (netIn file tables nodes) passes clocks wanted t found₀ found k
 
 abbrev μ-loop : tie.MeasureT-loop
-μ-loop file tables nodes roots passes t clocks wanted words found₀ codes reads k₀ found k = length clocks - k
+μ-loop file tables nodes roots passes t clocks wanted words found₀ codes sources k₀ found k = length clocks - k
 
 loop-holds : tie.Need-loop-holds Inv-loop μ-loop
 loop-holds c = (omega arith, refl, look-none _ _ _ _ _)

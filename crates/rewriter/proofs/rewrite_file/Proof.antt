@@ -56,9 +56,13 @@ slice-aggregate-rewrite-opened-4 c = search needs
 slice-aggregate-rewrite-opened-5 : tie.Need-slice-aggregate-rewrite-opened-5
 slice-aggregate-rewrite-opened-5 c = search needs
 
+slice-aggregate-rewrite-opened-6 : tie.Need-slice-aggregate-rewrite-opened-6
+slice-aggregate-rewrite-opened-6 c = search needs
+
 rewrite-opened-requires : tie.Need-rewrite-opened-requires
-rewrite-opened-requires c κs = let o = opened-fields (c .before .before .before .before .before .before .before .before .before .before .before .before .before .before .before .open-columns .ensures .0) (c .before .before .before .before .before .before .before .t .given .1) .2 in
-    (index-found (c .before .before .before .before .before .before .before .before .before .before .before .before .before .before .before .open-columns .ensures .0) (c .before .before .before .before .before .before .before .t .given .1), net-formed o (λ i. omega (arith, c .before .before .before .before .before .before .before .before .before .before .before .before .before .before .before .before .before .before .before .before .before .before .before .shared-slice-known .given i)), tables-came o (λ i. omega (arith, c .before .before .before .before .before .before .before .before .before .before .before .before .before .before .before .before .before .before .before .before .before .before .before .shared-slice-known .given i)), o .ordered, columns-of (c .before .before .before .before .before .before .before .before .before .before .before .before .before .before .before .open-columns .ensures .1) (c .before .before .before .before .before .before .before .t .given .1))
+rewrite-opened-requires c κs = let o = opened-fields (c .before .before .before .before .before .before .before .before .before .before .before .before .before .before .before .before .open-columns .ensures .0) (c .before .before .before .before .before .before .before .before .t .given .1) .2 in
+    let k = columns-of (c .before .before .before .before .before .before .before .before .before .before .before .before .before .before .before .before .open-columns .ensures .1) (c .before .before .before .before .before .before .before .before .t .given .1) in
+    (index-found (c .before .before .before .before .before .before .before .before .before .before .before .before .before .before .before .before .open-columns .ensures .0) (c .before .before .before .before .before .before .before .before .t .given .1), net-formed o (λ i. omega (arith, c .before .before .before .before .before .before .before .before .before .before .before .before .before .before .before .before .before .before .before .before .before .before .before .before .shared-slice-known .given i)), tables-came o (λ i. omega (arith, c .before .before .before .before .before .before .before .before .before .before .before .before .before .before .before .before .before .before .before .before .before .before .before .before .shared-slice-known .given i)), o .ordered, k .0, k .1)
 
 returns : tie.Need-returns
 returns c = rewrote (file-refused _ _ (opened-refused (c .before .before .before .before .before .before .before .before .before .open-columns .ensures .0) (c .before .number .given .1)))
@@ -67,8 +71,8 @@ same-length : tie.Need-same-length
 same-length c = search needs
 
 returns-2 : tie.Need-returns-2
-returns-2 c = let a = c .before .before .before .before .before .before .before .before .before .before .before .before .before .before .before .before .before .before .before .before .before .before .before .before .before .before .before .args in
-    let o = rewrote (file-taken (opened-fields (c .before .before .before .before .before .before .before .before .before .before .before .before .before .before .before .before .before .before .open-columns .ensures .0) (c .before .before .before .before .before .before .before .before .before .before .t .given .1) .2) (a .out .now)) in
+returns-2 c = let a = c .before .before .before .before .before .before .before .before .before .before .before .before .before .before .before .before .before .before .before .before .before .before .before .before .before .before .before .before .args in
+    let o = rewrote (file-taken (opened-fields (c .before .before .before .before .before .before .before .before .before .before .before .before .before .before .before .before .before .before .before .open-columns .ensures .0) (c .before .before .before .before .before .before .before .before .before .before .before .t .given .1) .2) (a .out .now)) in
     (c .before .before .rewrite-opened .ensures .0 ∙ o .0, c .before .before .rewrite-opened .ensures .1 ∙ o .1)
 
 pub rewrite-file-spec : {M : Type 1} → statement M
@@ -91,6 +95,7 @@ rewrite-file-spec =
     slice-aggregate-rewrite-opened-3
     slice-aggregate-rewrite-opened-4
     slice-aggregate-rewrite-opened-5
+    slice-aggregate-rewrite-opened-6
     rewrite-opened-requires
     returns
     same-length

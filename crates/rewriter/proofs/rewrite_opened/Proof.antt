@@ -13,7 +13,7 @@ slice-aggregate-find-leads : tie.Need-slice-aggregate-find-leads
 slice-aggregate-find-leads c = search needs
 
 find-leads-requires : tie.Need-find-leads-requires
-find-leads-requires c κs = (c .before .before .before .before .before .before .before .before .pre .0, c .before .before .before .before .before .before .before .before .pre .1 .sourced, omega (arith, length-replicate {A = ℕ} 1024 0), c .before .before .before .before .before .before .before .before .pre .4)
+find-leads-requires c κs = (c .before .before .before .before .before .before .before .before .before .pre .0, c .before .before .before .before .before .before .before .before .before .pre .1 .sourced, omega (arith, length-replicate {A = ℕ} 1024 0), c .before .before .before .before .before .before .before .before .before .pre .4)
 
 enum-known-number : tie.Need-enum-known-number
 enum-known-number c = search needs
@@ -25,19 +25,19 @@ slice-aggregate-rewrite-debtless : tie.Need-slice-aggregate-rewrite-debtless
 slice-aggregate-rewrite-debtless c = search needs
 
 rewrite-debtless-requires : tie.Need-rewrite-debtless-requires
-rewrite-debtless-requires c κs = let a = c .before .before .before .before .before .before .before .before .before .before .before .before .before .before .args in
+rewrite-debtless-requires c κs = let a = c .before .before .before .before .before .before .before .before .before .before .before .before .before .before .before .args in
     let N = netIn (a .file .now) (a .tables .now) (a .nodes .now) in
-    (c .before .before .before .before .before .before .before .before .before .before .before .before .before .before .pre .0, c .before .before .before .before .before .before .before .before .before .before .before .before .before .before .pre .1, c .before .before .before .before .before .before .before .before .before .before .before .before .before .before .pre .2, c .before .before .before .before .before .before .before .before .before .before .before .before .before .before .pre .3, c .before .before .before .before .before .find-leads .ensures .1 (c .before .before .enum-told .given .1), no-closed-debt N (c .before .before .before .before .before .find-leads .ensures .0) (c .before .before .enum-told .given .1), c .before .before .before .before .before .before .before .before .before .before .before .before .before .before .pre .4)
+    (c .before .before .before .before .before .before .before .before .before .before .before .before .before .before .before .pre .0, c .before .before .before .before .before .before .before .before .before .before .before .before .before .before .before .pre .1, c .before .before .before .before .before .before .before .before .before .before .before .before .before .before .before .pre .2, c .before .before .before .before .before .before .before .before .before .before .before .before .before .before .before .pre .3, c .before .before .before .before .before .find-leads .ensures .1 (c .before .before .enum-told .given .1), no-closed-debt N (c .before .before .before .before .before .find-leads .ensures .0) (c .before .before .enum-told .given .1), c .before .before .before .before .before .before .before .before .before .before .before .before .before .before .before .pre .4, c .before .before .before .before .before .before .before .before .before .before .before .before .before .before .before .pre .5)
 
 returns : tie.Need-returns
-returns c = let a = c .before .before .before .before .before .before .before .before .before .before .before .before .before .args in
+returns c = let a = c .before .before .before .before .before .before .before .before .before .before .before .before .before .before .args in
     rewrote (net-debt (netIn (a .file .now) (a .tables .now) (a .nodes .now)) (a .out .now) (c .before .before .before .before .find-leads .ensures .0) (c .before .number .given .1))
 
 same-length : tie.Need-same-length
 same-length c = search needs
 
 returns-2 : tie.Need-returns-2
-returns-2 c = let a = c .before .before .before .before .before .before .before .before .before .before .before .before .before .before .before .before .before .args in
+returns-2 c = let a = c .before .before .before .before .before .before .before .before .before .before .before .before .before .before .before .before .before .before .args in
     let N = netIn (a .file .now) (a .tables .now) (a .nodes .now) in
     let r = rewrote (net-debtless N (a .out .now) (c .before .before .before .before .before .before .before .before .find-leads .ensures .0) (c .before .before .before .before .before .enum-told .given .1)) in
     (c .before .before .rewrite-debtless .ensures .0 ∙ r .0, c .before .before .rewrite-debtless .ensures .1 ∙ r .1)

@@ -1,19 +1,17 @@
--- By the node's kind.
-use mathlib.Core.Path.{sym, ap₂, subst, _∙_}
-use Prim.Native.Nat.{ℕ, _^_, _<_}
+-- By the node's code.
+use mathlib.Core.Path.{_∙_}
 use native.Mathlib.Omega.{arith}
-use lib.ListN.{getD}
+use Rattle.netlist.specs.FileLaws.{size-in}
+use Rattle.run.proofs.NextWords.{next-register, next-memory, next-address, next-rom}
 use borrow.Author.Needs.{needs}
-use Rattle.netlist.specs.Net.{noTable, spelled}
-use Rattle.netlist.specs.File.{netIn}
-use Rattle.netlist.specs.FileLaws.{size-in, tables-in}
-use Rattle.evaluate.specs.SpellingLaws.{spelled-at}
-use Rattle.run.proofs.NextWords.{next-register, next-rom, next-address}
 use Rattle.run.proofs.next_word.Statement.{statement}
 use Rattle.run.proofs.next_word.Tie as tie
 
 mul-wide : tie.Need-mul-wide
 mul-wide c = search needs
+
+mul-wide-2 : tie.Need-mul-wide-2
+mul-wide-2 c = search needs
 
 shared-slice-read-wide : tie.Need-shared-slice-read-wide
 shared-slice-read-wide c = search needs
@@ -21,84 +19,41 @@ shared-slice-read-wide c = search needs
 wide-requires : tie.Need-wide-requires
 wide-requires c κs = search needs
 
-add-operand : tie.Need-add-operand
-add-operand c = search needs
+number-at-requires : tie.Need-number-at-requires
+number-at-requires c κs = search needs
 
-operand-requires : tie.Need-operand-requires
-operand-requires c κs = search needs
+shared-slice-read-if1 : tie.Need-shared-slice-read-if1
+shared-slice-read-if1 c = search needs
 
-add-byte-at : tie.Need-add-byte-at
-add-byte-at c = search needs
-
-byte-at-requires : tie.Need-byte-at-requires
-byte-at-requires c κs = search needs
-
-add-byte-at-2 : tie.Need-add-byte-at-2
-add-byte-at-2 c = search needs
-
-byte-at-requires-2 : tie.Need-byte-at-requires-2
-byte-at-requires-2 c κs = search needs
-
-cast-rom-word : tie.Need-cast-rom-word
-cast-rom-word c = search needs
-
-wide-requires-2 : tie.Need-wide-requires-2
-wide-requires-2 c κs = search needs
-
-rom-word-requires : tie.Need-rom-word-requires
-rom-word-requires c κs =
+memory-word-requires : tie.Need-memory-word-requires
+memory-word-requires c κs =
     let a = c .before .before .before .before .before .before .before .before .before .before .before .args in
     let s = a .file .now in
     let ts = a .tables .now in
     let ns = a .nodes .now in
-    let N = netIn s ts ns in
-    let sp = spelled-at s ts ns (c .before .before .before .before .before .before .before .before .before .before .before .pre .0) (λ i. omega (arith, c .before .before .before .before .before .before .before .before .before .before .shared-slice-known .given i)) (a .v) (c .before .before .before .before .before .before .before .before .before .before .before .pre .2) (c .before .before .before .before .before .wide .result) (c .before .before .before .before .before .wide .ensures .0) in
-    let at = c .before .before .before .before .before .wide .result in
-    let ws = a .words .now in
     let z = size-in s ts ns in
-    let q = next-address N s at (a .v) ws sp (c .before .before .before .before .before .before .before .before .before .before .before .pre .3) (λ e. c .before .before .if1 .left (c .before .before .before .byte-at .ensures ∙ e)) (c .before .before .before .before .before .before .before .before .before .before .before .pre .1) (omega (arith, c .before .before .before .before .before .before .before .before .before .before .before .pre .2)) (c .before .before .before .before .before .before .before .before .before .before .before .pre .4) in
-    let u = c .wide2 .ensures .0 ∙ c .before .before .before .before .operand .ensures in
-    (c .before .before .before .before .before .before .before .before .before .before .before .pre .0, omega (arith, q .0, tables-in s ts ns, c .before .byte-at2 .ensures), subst (λ (k : ℕ). c .wide2 .result < 2 ^ getD (N .tables) k noTable .bits) (sym (c .before .byte-at2 .ensures)) (rw u (q .1)))
+    (c .before .before .before .before .before .before .before .before .before .before .before .pre .0, c .before .before .before .before .before .before .before .before .before .before .before .pre .1, c .before .before .before .before .before .before .before .before .before .before .before .pre .2, next-memory (c .before .before .before .before .before .before .before .before .before .before .before .pre .5) (c .before .before .before .before .before .before .before .before .before .before .before .pre .2) (c .before .before .before .before .before .before .before .before .before .before .before .pre .3) (a .words .now) (c .before .before .number-at .ensures) (c .before .before .before .wide .ensures .0) (c .if1 .left), next-address (c .before .before .before .before .before .before .before .before .before .before .before .pre .5) (c .before .before .before .before .before .before .before .before .before .before .before .pre .2) (c .before .before .before .before .before .before .before .before .before .before .before .pre .3) (a .words .now) (c .before .before .number-at .ensures) (c .before .before .before .wide .ensures .0) (c .if1 .left) (c .before .before .before .before .before .before .before .before .before .before .before .pre .1) (omega (arith, c .before .before .before .before .before .before .before .before .before .before .before .pre .2)) (c .before .before .before .before .before .before .before .before .before .before .before .pre .4))
 
 returns : tie.Need-returns
 returns c =
-    let a = c .before .before .before .before .before .before .before .before .before .args in
-    let s = a .file .now in
-    let ts = a .tables .now in
-    let ns = a .nodes .now in
-    let N = netIn s ts ns in
-    let sp = spelled-at s ts ns (c .before .before .before .before .before .before .before .before .before .pre .0) (λ i. omega (arith, c .before .before .before .before .before .before .before .before .shared-slice-known .given i)) (a .v) (c .before .before .before .before .before .before .before .before .before .pre .2) (c .before .before .before .wide .result) (c .before .before .before .wide .ensures .0) in
-    let at = c .before .before .before .wide .result in
-    let ws = a .words .now in
-    c .before .before .operand .ensures ∙ next-register N s at (a .v) ws sp (c .before .before .before .before .before .before .before .before .before .pre .3) (sym (c .before .byte-at .ensures) ∙ c .if1 .taken)
+    let a = c .before .before .before .before .before .before .before .before .before .before .before .args in
+    next-register (c .before .before .before .before .before .before .before .before .before .before .before .pre .5) (c .before .before .before .before .before .before .before .before .before .before .before .pre .2) (c .before .before .before .before .before .before .before .before .before .before .before .pre .3) (a .words .now) (c .before .before .number-at .ensures) (c .before .before .before .wide .ensures .0) (c .if1 .taken)
 
 returns-2 : tie.Need-returns-2
 returns-2 c =
     let a = c .before .before .before .before .before .before .before .before .before .before .before .before .args in
-    let s = a .file .now in
-    let ts = a .tables .now in
-    let ns = a .nodes .now in
-    let N = netIn s ts ns in
-    let sp = spelled-at s ts ns (c .before .before .before .before .before .before .before .before .before .before .before .before .pre .0) (λ i. omega (arith, c .before .before .before .before .before .before .before .before .before .before .before .shared-slice-known .given i)) (a .v) (c .before .before .before .before .before .before .before .before .before .before .before .before .pre .2) (c .before .before .before .before .before .before .wide .result) (c .before .before .before .before .before .before .wide .ensures .0) in
-    let at = c .before .before .before .before .before .before .wide .result in
-    let ws = a .words .now in
-    c .rom-word .ensures ∙ ap₂ (λ (t u : ℕ). getD (spelled (getD (N .tables) t noTable)) u 0) (c .before .before .byte-at2 .ensures) (c .before .wide2 .ensures .0 ∙ c .before .before .before .before .before .operand .ensures) ∙ next-rom N s at (a .v) ws sp (c .before .before .before .before .before .before .before .before .before .before .before .before .pre .3) (λ e. c .before .before .before .if1 .left (c .before .before .before .before .byte-at .ensures ∙ e))
+    c .memory-word .ensures ∙ next-rom (c .before .before .before .before .before .before .before .before .before .before .before .before .pre .5) (c .before .before .before .before .before .before .before .before .before .before .before .before .pre .2) (c .before .before .before .before .before .before .before .before .before .before .before .before .pre .3) (a .words .now) (c .before .before .before .number-at .ensures) (c .before .before .before .before .wide .ensures .0) (c .before .if1 .left)
 
 pub next-word-spec : {M : Type 1} → statement M
 next-word-spec =
     tie.close
     (tie.spec
     mul-wide
+    mul-wide-2
     shared-slice-read-wide
     wide-requires
-    add-operand
-    operand-requires
-    add-byte-at
-    byte-at-requires
-    add-byte-at-2
-    byte-at-requires-2
-    cast-rom-word
-    wide-requires-2
-    rom-word-requires
+    number-at-requires
+    shared-slice-read-if1
+    memory-word-requires
     returns
     returns-2)

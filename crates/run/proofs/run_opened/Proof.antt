@@ -40,7 +40,7 @@ evaluate-requires : tie.Need-evaluate-requires
 evaluate-requires c κs =
     let a = (c .before .before .before .before .before .before .before .before .before .before .load-row-by .ensures .1 (c .before .before .before .before .before .before .before .before .if1 .taken)) in
     let b = (c .before .before .before .load-row-by2 .ensures .1 (c .before .if3 .taken)) in
-    (c .before .before .before .before .before .before .before .before .before .before .before .before .before .before .before .before .before .before .before .before .before .before .pre .0, c .before .before .before .before .before .before .before .before .before .before .before .before .before .before .before .before .before .before .before .before .before .before .pre .1, c .before .before .before .before .before .before .before .before .before .before .before .before .before .before .before .before .before .before .before .before .before .before .pre .2, omega (arith, c .before .before .before .before .before .before .before .before .before .before .before .before .before .before .before .before .before .before .before .before .before .before .pre .0 .few-nodes, a .kept, b .kept), inputs-fit a b, b .fit)
+    (c .before .before .before .before .before .before .before .before .before .before .before .before .before .before .before .before .before .before .before .before .before .before .pre .0, c .before .before .before .before .before .before .before .before .before .before .before .before .before .before .before .before .before .before .before .before .before .before .pre .1, c .before .before .before .before .before .before .before .before .before .before .before .before .before .before .before .before .before .before .before .before .before .before .pre .2, omega (arith, c .before .before .before .before .before .before .before .before .before .before .before .before .before .before .before .before .before .before .before .before .before .before .pre .0 .few-nodes, a .kept, b .kept), inputs-fit a b, b .fit, c .before .before .before .before .before .before .before .before .before .before .before .before .before .before .before .before .before .before .before .before .before .before .pre .3, c .before .before .before .before .before .before .before .before .before .before .before .before .before .before .before .before .before .before .before .before .before .before .pre .4)
 
 slice-aggregate-store-outputs : tie.Need-slice-aggregate-store-outputs
 slice-aggregate-store-outputs c = search needs

@@ -4,6 +4,7 @@ use mathlib.Core.List.{List}
 use Prim.Native.Nat.{ℕ, _+_, _-_, _≤_}
 use native.Mathlib.Omega.{arith}
 use lib.ListN.{length}
+use Rattle.lists.specs.BelowLaws.{countBelow-le}
 use Rattle.netlist.specs.Net.{size}
 use Rattle.netlist.specs.File.{netIn}
 use Rattle.netlist.specs.FileLaws.{size-in}
@@ -35,7 +36,7 @@ in-row-by-requires : tie.Need-in-row-by-requires Inv-loop μ-loop
 in-row-by-requires c κs = (c .before .before .before .before .before .before .before .before .before .pre .0, c .loop-test .taken, c .before .before .before .before .before .before .before .before .before .pre .4)
 
 next-word-requires : tie.Need-next-word-requires Inv-loop μ-loop
-next-word-requires c κs = (c .before .before .before .before .before .before .before .before .before .before .before .before .pre .0, c .before .before .before .before .before .before .before .before .before .before .before .before .pre .1, c .before .before .before .loop-test .taken, sym (c .before .before .in-row-by .ensures) ∙ c .before .if1 .taken, c .before .before .before .before .before .before .before .before .before .before .before .before .pre .2)
+next-word-requires c κs = (c .before .before .before .before .before .before .before .before .before .before .before .before .pre .0, c .before .before .before .before .before .before .before .before .before .before .before .before .pre .1, c .before .before .before .loop-test .taken, sym (c .before .before .in-row-by .ensures) ∙ c .before .if1 .taken, c .before .before .before .before .before .before .before .before .before .before .before .before .pre .2, c .before .before .before .before .before .before .before .before .before .before .before .before .pre .4)
 
 put-word-requires : tie.Need-put-word-requires Inv-loop μ-loop
 put-word-requires c κs =
@@ -48,10 +49,8 @@ put-word-requires c κs =
 add-at : tie.Need-add-at Inv-loop μ-loop
 add-at c =
     let a = c .before .before .before .before .before .before .before .before .before .before .before .before .before .before .before .before .args in
-    let s = a .file .now in
-    let ts = a .tables .now in
-    let ns = a .nodes .now in
-    omega (arith, fill-room (c .before .before .before .before .before .before .before .before .loop .inv .1) (sym (c .before .before .before .before .before .before .in-row-by .ensures) ∙ c .before .before .before .before .before .if1 .taken) (let z = size-in s ts ns in omega (arith, c .before .before .before .before .before .before .before .loop-test .taken)))
+    let N = netIn (a .file .now) (a .tables .now) (a .nodes .now) in
+    omega (arith, c .before .before .before .before .before .before .before .before .loop .inv .1 .written, countBelow-le (rowTest State N) (c .before .before .before .before .before .before .before .before .loop .u), c .before .before .before .before .before .before .before .loop-test .taken, c .before .before .before .before .before .before .before .before .before .before .before .before .before .before .before .before .pre .0 .few-nodes)
 
 add-u : tie.Need-add-u Inv-loop μ-loop
 add-u c =

@@ -8,7 +8,6 @@ use Rattle.netlist.specs.File.{netIn}
 use Rattle.netlist.specs.FileLaws.{size-in}
 use Rattle.evaluate.specs.Rows.{rowTest}
 use Rattle.evaluate.specs.Loading.{Loading, load-none, load-skip, load-take}
-use Rattle.evaluate.proofs.ByKind.{all-narrow}
 use borrow.Author.Tests.{ltb-true, ltb-false}
 use Rattle.evaluate.proofs.Rows.{too-short, too-wide, loaded}
 use Rattle.evaluate.proofs.lent.load_row_by.Statement.{statement}
@@ -52,8 +51,8 @@ fits-width-requires c κs =
     let s = a .file .now in
     let ts = a .tables .now in
     let ns = a .nodes .now in
-    let N = netIn s ts ns in
-    omega (arith, c .before .before .before .before .before .before .before .before .before .before .before .before .before .before .before .pre .4 .width (c .before .before .before .before .before .before .loop .v) (c .before .before .before .before .before .loop-test .taken), all-narrow N (c .before .before .before .before .before .before .before .before .before .before .before .before .before .before .before .pre .1) (c .before .before .before .before .before .before .loop .v))
+    let z = size-in s ts ns in
+    omega (arith, c .before .before .before .before .before .before .before .before .before .before .before .before .before .before .before .pre .4 .width (c .before .before .before .before .before .before .loop .v) (c .before .before .before .before .before .loop-test .taken), c .before .before .before .before .before .before .before .before .before .before .before .before .before .before .before .pre .1 .fields .width-high (c .before .before .before .before .before .before .loop .v) (omega (arith, c .before .before .before .before .before .loop-test .taken)))
 
 mul-words : tie.Need-mul-words Inv-loop μ-loop
 mul-words c = omega (arith, c .before .before .before .before .before .before .before .before .loop .inv .1 .kept)
