@@ -24,6 +24,7 @@ use Rattle.retiming.specs.Layout.{noPlace}
 use Rattle.plan.specs.Threes.{concat-next, concat-longer, inRow, row-of-three, in-threes}
 use Rattle.plan.specs.Wiring.{wiresTo, sourceOf, wireAt, Wired, Unwired, WiredTo, Copied}
 use Rattle.plan.specs.WiringLaws.{wires-few}
+use Rattle.plan.specs.Links.{From}
 use Rattle.plan.specs.Entries.{Finds, Stored, Placing, Adds, wantedOf, Wants, AddsAll, entriesBefore, Firsts, AllPlaced}
 
 -- ---- one entry more
@@ -295,6 +296,24 @@ module _ {u first : ℕ} {ends copied owners₀ words₀ : List ℕ} where
       little = omega (arith, t .little, a .little);
       adds = λ pre q s. placing-as refl refl (ap (λ (l : List ℕ). pre ++ map (Entry u) l) (ap (λ (y : ℕ). addNew y (distinct (wantedOf ends copied u k))) e ∙ sym (wants-one ends copied u k h))) (a .adds pre (distinct (wantedOf ends copied u k)) q (t .adds pre q s));
     }
+
+  -- up to m there is none
+  pub adds-past : {owners words : List ℕ} {k count : ℕ} (d : ℕ) → AddsAll u first k count ends copied owners₀ words₀ owners words → ((j : ℕ) → k ≤ j → j < k + d → getD ends j 0 ≡ u → ⊥)
+      → AddsAll u first (k + d) count ends copied owners₀ words₀ owners words
+  adds-past {owners} {words} {k} {count} zero t h = subst (λ (j : ℕ). AddsAll u first j count ends copied owners₀ words₀ owners words) (let e : k ≡ k + 0 = omega arith in e) t
+  adds-past {owners} {words} {k} {count} (suc d) t h =
+      subst (λ (j : ℕ). AddsAll u first j count ends copied owners₀ words₀ owners words) (let e : k + d + 1 ≡ k + suc d = omega arith in e)
+      (adds-skip (adds-past d t (λ j a b. h j a (omega arith))) (h (k + d) (omega arith) (omega arith)))
+
+  -- up to the next one, or to the last
+  pub adds-to : {owners words : List ℕ} {k count wires r : ℕ} (m : ℕ) → AddsAll u first k count ends copied owners₀ words₀ owners words → From ends wires u k r → k ≤ m → m ≤ r → m ≤ wires
+      → AddsAll u first m count ends copied owners₀ words₀ owners words
+  adds-to {owners} {words} {k} {count} m t f a b l =
+      subst (λ (j : ℕ). AddsAll u first j count ends copied owners₀ words₀ owners words) (let e : k + (m - k) ≡ m = omega arith in e)
+      (adds-past (m - k) t (λ j x y. f .none j x (omega arith) (omega arith)))
+
+pub placing-count : {owners words : List ℕ} {l : List Place} {m n : ℕ} → m ≡ n → Placing owners words l n → Placing owners words l m
+placing-count {owners} {words} {l} e t = subst (Placing owners words l) (sym e) t
 
 -- the entries of a ROM are those that its wires want
 pub rom-placed : (N : Net) {u k count r : ℕ} {e : Element} {ends copied owners words owners′ words′ : List ℕ} → u < size N → e ≡ elementAt N u → isMemory e ≡ true → Wants N ends copied → k ≡ 3 * size N

@@ -3,7 +3,7 @@ pub mod WiringLaws
 pub mod Threes
 pub mod Entries
 pub mod EntriesLaws
-pub mod Copies
+pub mod Links
 pub mod Registers
 pub mod RegistersLaws
 pub mod Plan

@@ -1,21 +1,18 @@
 // The nodes of the rewritten netlist that are no registers, in the file's order: an old node that is no register once, a ROM once for each different reset word.
-use super::copies::sum_wires;
 use super::wiring::memory_bit;
-use areas::flag_at;
 use areas::number_at;
 use areas::put_number;
 use columns::kinds::code_of;
 use columns::kinds::is_kind;
+use index::wide;
 ghost use mathlib.Core.Path.{_≡_};
-ghost use mathlib.Core.Bool.{true};
-ghost use Prim.Native.Nat.{_+_, _*_, _<_, _≤_};
+ghost use Prim.Native.Nat.{_+_, _<_, _≤_};
 ghost use lib.ListN.{length, set};
-ghost use Rattle.netlist.specs.Net.{isMemory, elementAt};
 ghost use Rattle.netlist.specs.ScanLaws.{Found};
 ghost use Rattle.netlist.specs.File.{netIn};
 ghost use Rattle.columns.specs.Columns.{Columns};
 ghost use Rattle.plan.specs.Entries.{Finds, Placing, Adds, Wants, AddsAll, entriesBefore, AllPlaced};
-ghost use Rattle.plan.specs.Copies.{Summed};
+ghost use Rattle.plan.specs.Links.{Chained, RomsLinked};
 
 // The first place from one on that has the word; where none up to another has it, that one.
 pub fn find_from(words: &[u16], c: u16, from: usize, to: usize) -> usize
@@ -54,28 +51,26 @@ fn add_copy(
     }
 }
 
-// Adds the entries of ROM u: one for each different word that its wires want.
+// Adds the entries of ROM u: one for each different word that its wires want, from its first wire on.
 fn add_copies(
     ends: &[u16],
     copied: &[u16],
+    links: &[u16],
     wires: usize,
     u: u16,
+    head: usize,
     first: usize,
     owners: &mut [u16],
     words: &mut [u16],
 ) -> usize
-    requires { ⌜ (first ≤ 1024) × (wires ≤ 3072) × (1024 ≤ length (now owners)) × (1024 ≤ length (now words)) ⌝ }
+    requires { ⌜ (first ≤ 1024) × (wires ≤ 3072) × (1024 ≤ length (now owners)) × (1024 ≤ length (now words)) × Chained (now ends) (now links) wires u head ⌝ }
     ensures { λ r. ⌜ AddsAll u first wires r (now (ends .entry)) (now (copied .entry)) (now (owners .entry)) (now (words .entry)) (now (owners .exit)) (now (words .exit)) ⌝ }
 {
     let mut count = first;
-    let mut k: usize = 0;
+    let mut k = head;
     while k < wires {
-        if number_at(ends, k) == u {
-            count = add_copy(u, number_at(copied, k), first, count, owners, words);
-            k = k + 1;
-        } else {
-            k = k + 1;
-        }
+        count = add_copy(u, number_at(copied, k), first, count, owners, words);
+        k = wide(number_at(links, k));
     }
     count
 }
@@ -90,44 +85,6 @@ fn add_entry(u: usize, word: u16, count: usize, owners: &mut [u16], words: &mut 
     count + 1
 }
 
-// Adds the entries of ROM u.
-fn place_rom(
-    file: &[u8],
-    tables: &[u16],
-    nodes: &[u16],
-    ends: &[u16],
-    copied: &[u16],
-    counts: &[u8],
-    single: &[u16],
-    u: usize,
-    count: usize,
-    owners: &mut [u16],
-    words: &mut [u16],
-) -> usize
-    requires { ⌜ Found (now file) (now tables) (now nodes) × (u < length (now nodes)) × (count ≤ 1024) × (1024 ≤ length (now owners)) × (1024 ≤ length (now words))
-        × Wants (netIn (now file) (now tables) (now nodes)) (now ends) (now copied) × Summed (now ends) (now copied) (now counts) (now single) (3 * length (now nodes))
-        × Placing (now owners) (now words) (entriesBefore (netIn (now file) (now tables) (now nodes)) u) count
-        × (isMemory (elementAt (netIn (now file) (now tables) (now nodes)) u) ≡ true) ⌝ }
-    ensures { λ r. ⌜ Placing (now (owners .exit)) (now (words .exit)) (entriesBefore (netIn (now (file .entry)) (now (tables .entry)) (now (nodes .entry))) (u + 1)) r × (r ≤ 4096) ⌝ }
-{
-    let kinds = flag_at(counts, u);
-    if kinds == 0 {
-        return count;
-    }
-    if kinds == 1 {
-        return add_entry(u, number_at(single, u), count, owners, words);
-    }
-    add_copies(
-        ends,
-        copied,
-        3 * nodes.len(),
-        u as u16,
-        count,
-        owners,
-        words,
-    )
-}
-
 // Adds the entries of node u.
 fn place(
     file: &[u8],
@@ -135,8 +92,8 @@ fn place(
     nodes: &[u16],
     ends: &[u16],
     copied: &[u16],
-    counts: &[u8],
-    single: &[u16],
+    heads: &[u16],
+    links: &[u16],
     u: usize,
     count: usize,
     owners: &mut [u16],
@@ -146,21 +103,20 @@ fn place(
 ) -> usize
     requires { ⌜ Found (now file) (now tables) (now nodes) × (u < length (now nodes)) × Columns (netIn (now file) (now tables) (now nodes)) (now codes) (now reads) (length (now nodes))
         × (count ≤ 1024) × (1024 ≤ length (now owners)) × (1024 ≤ length (now words))
-        × Wants (netIn (now file) (now tables) (now nodes)) (now ends) (now copied) × Summed (now ends) (now copied) (now counts) (now single) (3 * length (now nodes))
+        × Wants (netIn (now file) (now tables) (now nodes)) (now ends) (now copied) × RomsLinked (netIn (now file) (now tables) (now nodes)) (now ends) (now heads) (now links)
         × Placing (now owners) (now words) (entriesBefore (netIn (now file) (now tables) (now nodes)) u) count ⌝ }
     ensures { λ r. ⌜ Placing (now (owners .exit)) (now (words .exit)) (entriesBefore (netIn (now (file .entry)) (now (tables .entry)) (now (nodes .entry))) (u + 1)) r × (r ≤ 4096) ⌝ }
 {
     let code = code_of(codes, u);
     if memory_bit(code) == 1 {
-        return place_rom(
-            file,
-            tables,
-            nodes,
+        let head = wide(number_at(heads, u));
+        return add_copies(
             ends,
             copied,
-            counts,
-            single,
-            u,
+            links,
+            3 * nodes.len(),
+            u as u16,
+            head,
             count,
             owners,
             words,
@@ -179,6 +135,8 @@ pub fn place_entries(
     nodes: &[u16],
     ends: &[u16],
     copied: &[u16],
+    heads: &[u16],
+    links: &[u16],
     firsts: &mut [u16],
     owners: &mut [u16],
     words: &mut [u16],
@@ -187,13 +145,10 @@ pub fn place_entries(
 ) -> usize
     requires { ⌜ Found (now file) (now tables) (now nodes) × Columns (netIn (now file) (now tables) (now nodes)) (now codes) (now reads) (length (now nodes))
         × (length (now firsts) ≡ 1024) × (1024 ≤ length (now owners)) × (1024 ≤ length (now words))
-        × Wants (netIn (now file) (now tables) (now nodes)) (now ends) (now copied) ⌝ }
+        × Wants (netIn (now file) (now tables) (now nodes)) (now ends) (now copied) × RomsLinked (netIn (now file) (now tables) (now nodes)) (now ends) (now heads) (now links) ⌝ }
     ensures { λ r. ⌜ AllPlaced (netIn (now (file .entry)) (now (tables .entry)) (now (nodes .entry))) (now (owners .exit)) (now (words .exit)) (now (firsts .exit)) r ⌝ }
 {
     let n = nodes.len();
-    let mut counts = [0u8; 1024];
-    let mut single = [0u16; 1024];
-    sum_wires(ends, copied, 3 * n, &mut counts, &mut single);
     let mut count: usize = 0;
     let mut u: usize = 0;
     while u < n {
@@ -207,8 +162,8 @@ pub fn place_entries(
             nodes,
             ends,
             copied,
-            &counts,
-            &single,
+            heads,
+            links,
             u,
             count,
             owners,

@@ -1,11 +1,12 @@
 // Where everything goes in the rewritten netlist, and with which reset words: document 01, "Leads and the rewritten file".
-mod copies;
 mod entries;
+mod links;
 mod registers;
 mod wiring;
 
 use entries::place_entries;
 use first_clocks::first_words;
+use links::link_wires;
 use registers::lay_wires;
 use wiring::enter_wires;
 ghost use mathlib.Core.Path.{_≡_};
@@ -78,12 +79,17 @@ pub fn make_plan(
         reads,
         widths,
     );
+    // No clock is asked for any more: the links take their place.
+    let mut heads = [65535u16; 1024];
+    link_wires(&ends, 3 * nodes.len(), &mut heads, &mut clocks);
     let entries = place_entries(
         file,
         tables,
         nodes,
         &ends,
         &copied,
+        &heads,
+        &clocks,
         &mut firsts,
         owners,
         words,

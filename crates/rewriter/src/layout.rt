@@ -144,21 +144,20 @@ pub fn nodes_length(
     let mut sum: usize = 0;
     let mut i: usize = 0;
     while i < total {
-        sum = sum
-            + 3
-            + planned_length(
-                file,
-                tables,
-                nodes,
-                entries,
-                total,
-                owners,
-                words,
-                sources,
-                i,
-                codes,
-                reads,
-            );
+        let length = planned_length(
+            file,
+            tables,
+            nodes,
+            entries,
+            total,
+            owners,
+            words,
+            sources,
+            i,
+            codes,
+            reads,
+        );
+        sum = sum + 3 + length;
         i = i + 1;
     }
     sum

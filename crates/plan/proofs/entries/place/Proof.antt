@@ -1,11 +1,15 @@
 -- By the element: a ROM, a register, or any other.
 use mathlib.Core.Path.{_≡_, refl, sym, ap, _∙_}
+use Prim.Native.Nat.{ℕ, _*_}
 use native.Mathlib.Omega.{arith}
+use lib.ListN.{length}
 use borrow.Author.Needs.{needs}
+use Rattle.netlist.specs.Net.{size}
 use Rattle.netlist.specs.File.{netIn}
-use Rattle.plan.specs.EntriesLaws.{entries-register, entries-plain, placing-more, placing-as}
+use Rattle.netlist.specs.FileLaws.{size-in}
+use Rattle.plan.specs.EntriesLaws.{entries-register, entries-plain, placing-more, placing-as, placing-count, rom-placed}
 use Rattle.columns.specs.Kinds.{memory-bit, register-bit, bit-true, bit-false}
-use Rattle.plan.specs.Copies.{placing-count}
+use Rattle.plan.specs.Links.{chained-as}
 use Rattle.plan.proofs.entries.place.Statement.{statement}
 use Rattle.plan.proofs.entries.place.Tie as tie
 
@@ -15,10 +19,24 @@ code-of-requires c κs = search needs
 memory-bit-requires : tie.Need-memory-bit-requires
 memory-bit-requires c κs = search needs
 
-place-rom-requires : tie.Need-place-rom-requires
-place-rom-requires c κs = let a = c .before .before .before .before .before .before .before .before .before .before .before .before .before .before .before .before .args in
+number-at-requires : tie.Need-number-at-requires
+number-at-requires c κs = search needs
+
+wide-requires : tie.Need-wide-requires
+wide-requires c κs = search needs
+
+mul-add-copies : tie.Need-mul-add-copies
+mul-add-copies c = omega (arith, c .before .before .before .before .before .before .before .before .before .before .before .before .before .before .before .before .pre .0 .few-nodes)
+
+cast-add-copies : tie.Need-cast-add-copies
+cast-add-copies c = omega (arith, c .before .before .before .before .before .before .before .before .before .before .before .before .before .before .before .before .pre .0 .few-nodes, c .before .before .before .before .before .before .before .before .before .before .before .before .before .before .before .before .pre .1)
+
+add-copies-requires : tie.Need-add-copies-requires
+add-copies-requires c κs = let a = c .before .before .before .before .before .before .before .before .before .before .before .before .before .before .before .before .before .before .args in
     let N = netIn (a .file .now) (a .tables .now) (a .nodes .now) in
-    (c .before .before .before .before .before .before .before .before .before .before .before .before .before .before .before .before .pre .0, c .before .before .before .before .before .before .before .before .before .before .before .before .before .before .before .before .pre .1, c .before .before .before .before .before .before .before .before .before .before .before .before .before .before .before .before .pre .3, c .before .before .before .before .before .before .before .before .before .before .before .before .before .before .before .before .pre .4, c .before .before .before .before .before .before .before .before .before .before .before .before .before .before .before .before .pre .5, c .before .before .before .before .before .before .before .before .before .before .before .before .before .before .before .before .pre .6, c .before .before .before .before .before .before .before .before .before .before .before .before .before .before .before .before .pre .7, c .before .before .before .before .before .before .before .before .before .before .before .before .before .before .before .before .pre .8, bit-true (sym (memory-bit (c .before .before .before .before .before .before .before .before .before .before .before .before .before .before .before .before .pre .2) (c .before .before .before .before .before .before .before .before .before .before .before .before .before .before .before .before .pre .1) (c .before .before .before .before .code-of .ensures .0) (c .before .before .before .memory-bit .ensures .0)) ∙ c .before .before .if1 .taken))
+    let z = size-in (a .file .now) (a .tables .now) (a .nodes .now) in
+    let m = bit-true (sym (memory-bit (c .before .before .before .before .before .before .before .before .before .before .before .before .before .before .before .before .before .before .pre .2) (c .before .before .before .before .before .before .before .before .before .before .before .before .before .before .before .before .before .before .pre .1) (c .before .before .before .before .before .before .code-of .ensures .0) (c .before .before .before .before .before .memory-bit .ensures .0)) ∙ c .before .before .before .before .if1 .taken) in
+    (c .before .before .before .before .before .before .before .before .before .before .before .before .before .before .before .before .before .before .pre .3, omega (arith, c .before .before .before .before .before .before .before .before .before .before .before .before .before .before .before .before .before .before .pre .0 .few-nodes), c .before .before .before .before .before .before .before .before .before .before .before .before .before .before .before .before .before .before .pre .4, c .before .before .before .before .before .before .before .before .before .before .before .before .before .before .before .before .before .before .pre .5, chained-as (let e : 3 * size N ≡ 3 * length (a .nodes .now) = omega arith in e) (c .before .before .wide .ensures .0 ∙ c .before .before .before .number-at .ensures) (c .before .before .before .before .before .before .before .before .before .before .before .before .before .before .before .before .before .before .pre .7 (a .u) (omega (arith, c .before .before .before .before .before .before .before .before .before .before .before .before .before .before .before .before .before .before .pre .1)) m))
 
 same-length : tie.Need-same-length
 same-length c = search needs
@@ -27,7 +45,11 @@ same-length-2 : tie.Need-same-length-2
 same-length-2 c = search needs
 
 returns : tie.Need-returns
-returns c = c .before .before .before .before .place-rom .ensures
+returns c = let a = c .before .before .before .before .before .before .before .before .before .before .before .before .before .before .before .before .before .before .before .before .before .before .before .args in
+    let N = netIn (a .file .now) (a .tables .now) (a .nodes .now) in
+    let z = size-in (a .file .now) (a .tables .now) (a .nodes .now) in
+    let m = bit-true (sym (memory-bit (c .before .before .before .before .before .before .before .before .before .before .before .before .before .before .before .before .before .before .before .before .before .before .before .pre .2) (c .before .before .before .before .before .before .before .before .before .before .before .before .before .before .before .before .before .before .before .before .before .before .before .pre .1) (c .before .before .before .before .before .before .before .before .before .before .before .code-of .ensures .0) (c .before .before .before .before .before .before .before .before .before .before .memory-bit .ensures .0)) ∙ c .before .before .before .before .before .before .before .before .before .if1 .taken) in
+    (rom-placed N (omega (arith, c .before .before .before .before .before .before .before .before .before .before .before .before .before .before .before .before .before .before .before .before .before .before .before .pre .1)) refl m (c .before .before .before .before .before .before .before .before .before .before .before .before .before .before .before .before .before .before .before .before .before .before .before .pre .6) (ap (λ (k : ℕ). 3 * k) (sym z)) (c .before .before .before .before .before .before .before .before .before .before .before .before .before .before .before .before .before .before .before .before .before .before .before .pre .3) (c .before .before .before .before .before .before .before .before .before .before .before .before .before .before .before .before .before .before .before .before .before .before .before .pre .8) (c .before .before .before .before .add-copies .ensures), omega (arith, c .before .before .before .before .add-copies .ensures .little, c .before .before .before .before .before .before .before .before .before .before .before .before .before .before .before .before .before .before .before .before .before .before .before .pre .3, c .before .before .before .before .before .before .before .before .before .before .before .before .before .before .before .before .before .before .before .before .before .before .before .pre .0 .few-nodes))
 
 is-kind-requires : tie.Need-is-kind-requires
 is-kind-requires c κs = search needs
@@ -57,7 +79,11 @@ place-spec =
     (tie.spec
     code-of-requires
     memory-bit-requires
-    place-rom-requires
+    number-at-requires
+    wide-requires
+    mul-add-copies
+    cast-add-copies
+    add-copies-requires
     same-length
     same-length-2
     returns

@@ -18,11 +18,11 @@ abbrev μ-loop : tie.MeasureT-loop
 loop-holds : tie.Need-loop-holds Inv-loop μ-loop
 loop-holds c = (omega arith, sym (ap length (nodes-none (netIn (c .before .before .before .before .before .before .before .before .args .file .now) (c .before .before .before .before .before .before .before .before .args .tables .now) (c .before .before .before .before .before .before .before .before .args .nodes .now)))), omega arith)
 
-add-sum : tie.Need-add-sum Inv-loop μ-loop
-add-sum c = omega (arith, c .before .loop .inv .2, c .before .before .before .before .before .before .before .before .before .before .pre .3, c .before .loop .inv .0)
-
 planned-length-requires : tie.Need-planned-length-requires Inv-loop μ-loop
 planned-length-requires c κs = (c .before .before .before .before .before .before .before .before .before .before .pre .0, c .before .before .before .before .before .before .before .before .before .before .pre .1, c .before .before .before .before .before .before .before .before .before .before .pre .2, c .before .before .before .before .before .before .before .before .before .before .pre .3, c .loop-test .taken)
+
+add-sum : tie.Need-add-sum Inv-loop μ-loop
+add-sum c = omega (arith, c .before .before .loop .inv .2, c .before .before .before .before .before .before .before .before .before .before .before .pre .3, c .before .before .loop .inv .0)
 
 add-sum-2 : tie.Need-add-sum-2 Inv-loop μ-loop
 add-sum-2 c = omega (arith, c .before .before .loop .inv .2, c .before .before .before .before .before .before .before .before .before .before .before .pre .3, c .before .before .loop .inv .0, c .planned-length .ensures .1)
@@ -52,8 +52,8 @@ nodes-length-spec =
     Inv-loop
     μ-loop
     loop-holds
-    add-sum
     planned-length-requires
+    add-sum
     add-sum-2
     add-i
     loop-less
