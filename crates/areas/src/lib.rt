@@ -1,6 +1,6 @@
-// Total reads and writes of work areas: past the end there is 0, and nothing is written.
+// Total reads and writes of work areas: past the end there is 0, and nothing is written. And a work area filled anew.
 ghost use mathlib.Core.Path.{_≡_};
-ghost use lib.ListN.{getD, set};
+ghost use lib.ListN.{length, getD, set, replicate};
 
 pub fn flag_at(flags: &[u8], i: usize) -> u8
     ensures { λ r. ⌜ r ≡ getD (now (flags .entry)) i 0 ⌝ }
@@ -27,5 +27,15 @@ pub fn put_number(numbers: &mut [u16], i: usize, x: u16)
 {
     if i < numbers.len() {
         numbers[i] = x;
+    }
+}
+
+pub fn fill(numbers: &mut [u16], x: u16)
+    ensures { λ _. ⌜ now (numbers .exit) ≡ replicate (length (now (numbers .entry))) x ⌝ }
+{
+    let mut i: usize = 0;
+    while i < numbers.len() {
+        numbers[i] = x;
+        i = i + 1;
     }
 }

@@ -35,8 +35,8 @@ LoadedAt N t words v = (isInput (elementAt N v) || holdsWord (elementAt N v)) �
 abbrev pub Begins : Net → ℕ → ℕ → ℕ → Type 0
 Begins N t v x = (isInput (elementAt N v) || holdsWord (elementAt N v)) ≡ true → x ≡ zeroWord N t v
 
-abbrev pub Loads : Net → ℕ → List ℕ → Type 0
-Loads N t words = (v : ℕ) → v < size N → LoadedAt N t words v
+pub record Loads (N : Net) (t : ℕ) (words : List ℕ) : Type 0 where
+  pub at : (v : ℕ) → v < size N → LoadedAt N t words v
 
 input-loaded : (e : Element) → isInput e ≡ true → (isInput e || holdsWord e) ≡ true
 input-loaded e t = ap (λ (b : Bool). b || holdsWord e) t
@@ -135,8 +135,8 @@ module _ (N : Net) (wf : WellFormed N) where
   module _ (t : ℕ) (ws : List ℕ) (l : Loads N t ws) where
     pub row-fits : RowFits Inputs N ws × RowFits State N ws
     row-fits = (
-      λ v h e. subst (λ (x : ℕ). x < 2 ^ widthAt N v) (sym (l v h (input-loaded (elementAt N v) e))) (zero-fits t v h),
-      λ v h e. subst (λ (x : ℕ). x < 2 ^ widthAt N v) (sym (l v h (holder-loaded (elementAt N v) e))) (zero-fits t v h),
+      λ v h e. subst (λ (x : ℕ). x < 2 ^ widthAt N v) (sym (l .at v h (input-loaded (elementAt N v) e))) (zero-fits t v h),
+      λ v h e. subst (λ (x : ℕ). x < 2 ^ widthAt N v) (sym (l .at v h (holder-loaded (elementAt N v) e))) (zero-fits t v h),
     )
 
     rank : ℕ → ℕ
@@ -165,13 +165,13 @@ module _ (N : Net) (wf : WellFormed N) where
     unfolding portOf again
     input-same v h e =
         sym (now-input (contentsNow N (stateAt N (λ s. []) t) v) (widthAt N v) (λ p. widthAt N (source N v p)) (getD [] (portOf N v) 0) (getD (stateAt N (λ s. []) t) (holderOf N v) 0) (λ p. getD all (source N v p) 0) (elementAt N v) e)
-        ∙ sym (settled v h) ∙ all-is v ∙ sym (l v h (input-loaded (elementAt N v) e)) ∙ sym (getD-select (rowTest Inputs N) (λ k. getD ws k 0) (size N) v 0 h e)
+        ∙ sym (settled v h) ∙ all-is v ∙ sym (l .at v h (input-loaded (elementAt N v) e)) ∙ sym (getD-select (rowTest Inputs N) (λ k. getD ws k 0) (size N) v 0 h e)
 
     holder-same : (v : ℕ) → v < size N → holdsWord (elementAt N v) ≡ true → getD (stateAt N (λ s. []) t) (holderOf N v) 0 ≡ getD (rowOf State N ws) (holderOf N v) 0
     unfolding holderOf again
     holder-same v h e =
         sym (now-holder (contentsNow N (stateAt N (λ s. []) t) v) (widthAt N v) (λ p. widthAt N (source N v p)) (getD [] (portOf N v) 0) (getD (stateAt N (λ s. []) t) (holderOf N v) 0) (λ p. getD all (source N v p) 0) (elementAt N v) e)
-        ∙ sym (settled v h) ∙ all-is v ∙ sym (l v h (holder-loaded (elementAt N v) e)) ∙ sym (getD-select (rowTest State N) (λ k. getD ws k 0) (size N) v 0 h e)
+        ∙ sym (settled v h) ∙ all-is v ∙ sym (l .at v h (holder-loaded (elementAt N v) e)) ∙ sym (getD-select (rowTest State N) (λ k. getD ws k 0) (size N) v 0 h e)
 
     still : (v : ℕ) → v < size N → getD all v 0 ≡ again N (rowOf State N ws) (rowOf Inputs N ws) all v
     unfolding again contentsNow
@@ -203,9 +203,8 @@ module _ (N : Net) (wf : WellFormed N) where
     input-word v h e =
         input-gives (contentsAt N v) (widthAt N v) (λ p. widthAt N (source N v p)) (λ s. getD [] (portOf N v) 0) (λ p s. zeroWord N s (source N v p)) (t + 1) (elementAt N v) e ∙ sym (behaves (t + 1) v h)
 
--- every word of an evaluated clock fits
-pub clock-fits : (N : Net) (wf : WellFormed N) (t : ℕ) {ws ws′ : List ℕ} → Loads N t ws → Evaluated N ws ws′ → WordsFit N ws′
-clock-fits N wf t {ws} {ws′} l e = fits-at N wf t ws′ (words-at N wf t ws l e)
+pub loads-as : {N : Net} {t : ℕ} {ws ws′ : List ℕ} → ws′ ≡ ws → Loads N t ws → Loads N t ws′
+loads-as {N} {t} e l = subst (Loads N t) (sym e) l
 
 -- ---- a list that is loaded node by node
 

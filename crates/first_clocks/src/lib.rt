@@ -269,7 +269,27 @@ fn copy(from: &[u16], to: &mut [u16])
     }
 }
 
-// Takes all words that are wanted. Place k wants the word of node wanted[k] at clock clocks[k], or none where that is 65,535.
+// The words of the first clock.
+pub fn first_clock(
+    file: &[u8],
+    tables: &[u16],
+    nodes: &[u16],
+    order: &[u16],
+    words: &mut [u16],
+    codes: &[u8],
+    sources: &[u16],
+    widths: &[u8],
+)
+    requires { ⌜ Found (now file) (now tables) (now nodes) × WellFormed (netIn (now file) (now tables) (now nodes))
+        × Complete inClock (netIn (now file) (now tables) (now nodes)) (now order) × (length (now nodes) ≤ length (now words))
+        × Columns (netIn (now file) (now tables) (now nodes)) (now codes) (now sources) (length (now nodes)) × Widths (netIn (now file) (now tables) (now nodes)) (now widths) (length (now nodes)) ⌝ }
+    ensures { λ _. ⌜ WordsAt (netIn (now (file .entry)) (now (tables .entry)) (now (nodes .entry))) 0 (now (words .exit)) ⌝ }
+{
+    load_reset(file, tables, nodes, words, codes, sources);
+    evaluate(file, tables, nodes, order, words, codes, sources, widths);
+}
+
+// Takes all words that are wanted, from the words of the first clock on. Place k wants the word of node wanted[k] at clock clocks[k], or none where that is 65,535.
 pub fn first_words(
     file: &[u8],
     tables: &[u16],
@@ -277,6 +297,7 @@ pub fn first_words(
     order: &[u16],
     roots: &[u16],
     passes: &[u16],
+    start: &[u16],
     clocks: &[u16],
     wanted: &[u16],
     found: &mut [u16],
@@ -287,25 +308,15 @@ pub fn first_words(
     requires { ⌜ Found (now file) (now tables) (now nodes) × WellFormed (netIn (now file) (now tables) (now nodes))
         × Complete inClock (netIn (now file) (now tables) (now nodes)) (now order) × AllTraced (netIn (now file) (now tables) (now nodes)) (now roots) (now passes)
         × Columns (netIn (now file) (now tables) (now nodes)) (now codes) (now sources) (length (now nodes)) × OfNodes (netIn (now file) (now tables) (now nodes)) (now clocks) (now wanted) × (length (now clocks) ≤ length (now found))
-        × Widths (netIn (now file) (now tables) (now nodes)) (now widths) (length (now nodes)) ⌝ }
+        × Widths (netIn (now file) (now tables) (now nodes)) (now widths) (length (now nodes)) × WordsAt (netIn (now file) (now tables) (now nodes)) 0 (now start) × (length (now start) ≡ 1024) ⌝ }
     ensures { λ _. ⌜ Taken (netIn (now (file .entry)) (now (tables .entry)) (now (nodes .entry))) (now (clocks .entry)) (now (wanted .entry)) (now (found .entry)) (now (found .exit)) ⌝ }
 {
     let mut words = [0u16; 1024];
     let mut next = [0u16; 1024];
     let limit = clocks_to_run(passes, clocks, wanted);
-    load_reset(file, tables, nodes, &mut words, codes, sources);
+    copy(start, &mut words);
     let mut t: usize = 0;
     while t < limit {
-        evaluate(
-            file,
-            tables,
-            nodes,
-            order,
-            &mut words,
-            codes,
-            sources,
-            widths,
-        );
         take_due(
             file,
             tables,
@@ -324,6 +335,16 @@ pub fn first_words(
         if t < limit {
             load_next(file, tables, nodes, &words, &mut next, codes, sources);
             copy(&next, &mut words);
+            evaluate(
+                file,
+                tables,
+                nodes,
+                order,
+                &mut words,
+                codes,
+                sources,
+                widths,
+            );
         }
     }
 }

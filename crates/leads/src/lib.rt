@@ -1,6 +1,7 @@
 // The leads of an indexed netlist, and with them the checks 11 and 12. Numbers from 0 up are raised until no reader asks more of what it reads.
 mod worklist;
 
+use areas::fill;
 use areas::flag_at;
 use areas::number_at;
 use areas::put_flag;
@@ -12,7 +13,7 @@ use nodes::code_sources;
 use worklist::spread;
 ghost use mathlib.Core.Path.{_≡_};
 ghost use Prim.Native.Nat.{ℕ, _+_, _<_, _≤_};
-ghost use lib.ListN.{length, getD, replicate};
+ghost use lib.ListN.{length, getD};
 ghost use lib.Dec.{ltb};
 ghost use Rattle.lists.specs.Lists.{anyBelow, lowest};
 ghost use Rattle.netlist.specs.Net.{Sourced};
@@ -54,17 +55,6 @@ fn mark_roms(
         v = v + 1;
     }
     count
-}
-
-// The empty walk's excess at every node.
-fn zero(leads: &mut [u16])
-    ensures { λ _. ⌜ now (leads .exit) ≡ replicate (length (now (leads .entry))) 0 ⌝ }
-{
-    let mut i: usize = 0;
-    while i < leads.len() {
-        leads[i] = 0;
-        i = i + 1;
-    }
 }
 
 // Raises the lead of u to due - taken where it is lower, and then gives 1.
@@ -241,7 +231,8 @@ pub fn find_leads(
 {
     let mut roms = [0u8; 1024];
     let bound = mark_roms(file, tables, nodes, &mut roms, codes, reads);
-    zero(leads);
+    // The empty walk's excess at every node.
+    fill(leads, 0);
     spread(
         file,
         tables,

@@ -89,15 +89,15 @@ module _ {N : Net} {leads roots passes ends froms clocks : List ℕ} (ready : Re
       few = omega (arith, entries-are);
     }
 
-    pub laid-first : (sources : List ℕ) → Laid N owners words (replicate 1024 65535) sources 0 entries
+    pub laid-first : {late : List ℕ} (sources : List ℕ) → late ≡ replicate 1024 65535 → Laid N owners words late sources 0 entries
     unfolding wiresBefore
-    laid-first sources = record {
+    laid-first sources e = record {
       held = placed .exact few .1;
       count = omega (arith, entries-are);
       heads = λ j l. absurd (not-suc-le-zero l);
       regs = λ j l b. absurd (not-suc-le-zero l);
-      never = λ i l. getD-replicate 1024 i 65535 0 (omega (arith, entries-are));
-      ahead = λ i l b. getD-replicate 1024 i 65535 0 b;
+      never = λ i l. ap (λ (s : List ℕ). getD s i 0) e ∙ getD-replicate 1024 i 65535 0 (omega (arith, entries-are));
+      ahead = λ i l b. ap (λ (s : List ℕ). getD s i 0) e ∙ getD-replicate 1024 i 65535 0 b;
     }
 
   -- the wire of a register is among those entered, and its clock is one

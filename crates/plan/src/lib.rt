@@ -4,7 +4,9 @@ mod links;
 mod registers;
 mod wiring;
 
+use areas::fill;
 use entries::place_entries;
+use first_clocks::first_clock;
 use first_clocks::first_words;
 use links::link_wires;
 use registers::lay_wires;
@@ -65,6 +67,8 @@ pub fn make_plan(
         codes,
         reads,
     );
+    let mut start = [0u16; 1024];
+    first_clock(file, tables, nodes, order, &mut start, codes, reads, widths);
     first_words(
         file,
         tables,
@@ -72,6 +76,7 @@ pub fn make_plan(
         order,
         roots,
         passes,
+        &start,
         &clocks,
         reads,
         &mut copied,
@@ -79,16 +84,17 @@ pub fn make_plan(
         reads,
         widths,
     );
-    // No clock is asked for any more: the links take their place.
-    let mut heads = [65535u16; 1024];
-    link_wires(&ends, 3 * nodes.len(), &mut heads, &mut clocks);
+    // The stack is short: two work areas serve twice. No clock of a wire is asked for any more, so the links take their place; and the heads stand where the
+    // clocks of the registers will.
+    let mut late = [65535u16; 1024];
+    link_wires(&ends, 3 * nodes.len(), &mut late, &mut clocks);
     let entries = place_entries(
         file,
         tables,
         nodes,
         &ends,
         &copied,
-        &heads,
+        &late,
         &clocks,
         &mut firsts,
         owners,
@@ -102,7 +108,7 @@ pub fn make_plan(
             total: entries,
         };
     }
-    let mut late = [65535u16; 1024];
+    fill(&mut late, 65535);
     let total = lay_wires(
         file,
         tables,
@@ -131,6 +137,7 @@ pub fn make_plan(
         order,
         roots,
         passes,
+        &start,
         &late,
         owners,
         words,
