@@ -1,22 +1,22 @@
--- In an order that puts each register after its source, all nodes are traced one by one. Assumes nothing.
-use mathlib.Core.Path.{_≡_, sym, ap, subst, _∙_}
-use mathlib.Core.Logic.{⊎-elim}
-use mathlib.Core.Bool.{Bool}
+-- The registers that wait are traced along their wires, each once. Assumes nothing.
+use mathlib.Core.Path.{_≡_, refl, sym, ap, subst, _∙_}
+use mathlib.Core.Logic.{_⊎_, ⊎-elim, inl, inr}
+use mathlib.Core.Bool.{Bool, true, false}
 use mathlib.Core.List.{List}
-use Prim.Native.Nat.{ℕ, zero, suc, _+_, _≤_, _<_, zero-le}
+use Prim.Native.Nat.{ℕ, zero, suc, _+_, _-_, _*_, _≤_, _<_, zero-le}
 use native.Mathlib.Decide.{ℕ-discrete}
 use native.Mathlib.Omega.{arith}
 use lib.ListN.{length, getD, set}
+use lib.Dec.{lit<}
 use lib.Seq.{getD-set-same, getD-set-other}
 use borrow.Author.Count.{below-more}
 use Rattle.lists.specs.Lists.{one}
 use Rattle.lists.specs.BelowLaws.{true-or-false}
-use Rattle.netlist.specs.Net.{Net, size, elementAt, source, isRegister, inRegisters, Sourced}
-use Rattle.order.specs.Pass.{on, Waiting}
-use Rattle.order.specs.Order.{Stands, Ordered, Placed, ready}
-use Rattle.order.specs.OrderLaws.{left-loop}
+use Rattle.netlist.specs.Net.{Net, size, elementAt, source, isRegister, Sourced}
+use Rattle.columns.specs.Columns.{Columns, source-is}
 use Rattle.retiming.specs.Rewrite.{passedIn, root, passed}
-use Rattle.wires.specs.Traced.{Ringless, Traced, SourceTraced, AllTraced}
+use Rattle.retiming.specs.Wires.{behind, ringless-rooted, wire-next, wire-none}
+use Rattle.wires.specs.Traced.{Ringless, Traced, Waits, HalfTraced, MoreTraced}
 
 -- a wire passes no more registers than there are nodes
 passed-in-few : (N : Net) (k s : ℕ) → passedIn N k s ≤ k
@@ -28,49 +28,162 @@ pub passed-few : (N : Net) (s : ℕ) → passed N s ≤ size N
 unfolding passed
 passed-few N s = passed-in-few N (size N) s
 
+-- ---- back along a wire
+
+-- k registers back from v comes u
+pub record Back (N : Net) (v u k : ℕ) : Type 0 where
+  pub inside : u < size N
+  pub same-root : root N v ≡ root N u
+  pub more : passed N v ≡ k + passed N u
+
+pub back-none : {N : Net} {v : ℕ} → v < size N → Back N v v 0
+back-none h = record { inside = h; same-root = refl; more = omega arith }
+
+pub back-more : {N : Net} {v u s k : ℕ} → Back N v u k → Back N u s 1 → Back N v s (k + 1)
+back-more a b = record { inside = b .inside; same-root = a .same-root ∙ b .same-root; more = omega (arith, a .more, b .more) }
+
+-- node v of two work areas is written
+pub record Written (roots passes more through : List ℕ) (v x y : ℕ) : Type 0 where
+  pub roots-are : more ≡ set roots v x
+  pub passes-are : through ≡ set passes v y
+  pub root-room : v < length roots
+  pub pass-room : v < length passes
+
 module _ (N : Net) where
-  -- where there is no ring every node stands in the order
-  pub all-stand : Sourced N → Ringless N → {flags order : List ℕ} {k : ℕ} → Placed inRegisters N flags order k → Waiting (ready inRegisters N) flags (size N) → (v : ℕ) → v < size N → Stands order k v
-  all-stand sourced none {flags} {order} {k} t w v l =
-      t .stands v l (⊎-elim (λ b. b) (λ b. let r = left-loop inRegisters N t sourced w v l b in absurd (none (r .0) (r .1))) (true-or-false (on flags v)))
+  -- from a register to its source, as the columns have it
+  back-one : Sourced N → Ringless N → {codes reads : List ℕ} {n u s : ℕ} → Columns N codes reads n → u < n → u < size N → isRegister (elementAt N u) ≡ true → s ≡ getD reads (3 * u) 0 → Back N u s 1
+  back-one sourced none {u = u} {s} t l h r e = told (wire-next N (ringless-rooted N sourced none) u h r)
+    where
+      is : s ≡ source N u 0
+      is = e ∙ source-is N t u 0 (3 * u) l (lit< tt) (omega arith)
 
-  -- the first i of an order are traced
-  pub record TracedTo (order roots passes : List ℕ) (i : ℕ) : Type 0 where
-    pub done : (j : ℕ) → j < i → Traced N roots passes (getD order j 0)
-
-  pub traced-none : {order roots passes : List ℕ} → TracedTo order roots passes 0
-  traced-none = record { done = λ j l. absurd (omega arith) }
-
-  -- the next one, v, whose source comes before it where it is a register
-  module _ {order roots passes : List ℕ} {i v : ℕ} (t : TracedTo order roots passes i) (e : v ≡ getD order i 0) where
-    pub source-traced : {k : ℕ} → Ordered inRegisters N order k → i < k → SourceTraced N roots passes v
-    source-traced {k} o l = subst (SourceTraced N roots passes) (sym e) (λ r. before (o .after i 0 l (subst (λ (b : Bool). 0 < one b) (sym r) (omega arith))))
-      where
-        before : Stands order i (source N (getD order i 0) 0) → Traced N roots passes (source N (getD order i 0) 0)
-        before (j, m, q) = subst (Traced N roots passes) q (t .done j m)
-
-    module _ {more through : List ℕ} (p : more ≡ set roots v (root N v)) (q : through ≡ set passes v (passed N v)) (a : v < length roots) (b : v < length passes) where
-      here : Traced N more through v
-      here = record {
-        from = ap (λ (s : List ℕ). getD s v 0) p ∙ getD-set-same roots v (root N v) 0 a;
-        through = ap (λ (s : List ℕ). getD s v 0) q ∙ getD-set-same passes v (passed N v) 0 b;
+      told : (root N u ≡ root N (source N u 0)) × (passed N u ≡ suc (passed N (source N u 0))) → Back N u s 1
+      told (p, q) = record {
+        inside = subst (λ (v : ℕ). v < size N) (sym is) (behind N sourced u h r);
+        same-root = p ∙ ap (root N) (sym is);
+        more = let f = ap (passed N) is in omega arith;
       }
 
-      still : (u : ℕ) → Traced N roots passes u → Traced N more through u
-      still u r = elim (ℕ-discrete u v) [
-        | yes d ↦ subst (Traced N more through) (sym d) here
-        | no d ↦ record {
-          from = ap (λ (s : List ℕ). getD s u 0) p ∙ getD-set-other roots v u (root N v) 0 d ∙ r .from;
-          through = ap (λ (s : List ℕ). getD s u 0) q ∙ getD-set-other passes v u (passed N v) 0 d ∙ r .through;
-        }
-      ]
+  -- ---- a node of work areas where each is traced or waits, told by its mark
 
-      pub traced-more : TracedTo order more through (i + 1)
-      traced-more = record { done = below-more (λ (j : ℕ). Traced N more through (getD order j 0)) i (λ j m. still (getD order j 0) (t .done j m)) (subst (Traced N more through) e here) }
+  module _ {roots passes : List ℕ} {u : ℕ} (t : HalfTraced N roots passes (size N)) (h : u < size N) where
+    pub traced-already : (getD passes u 0 ≡ 65535 → ⊥) → Traced N roots passes u
+    traced-already d = ⊎-elim (λ a. a) (λ a. absurd (d (a .mark))) (t .each u h)
 
-  -- all that stand are traced
-  pub traced-all : {order roots passes : List ℕ} {i k : ℕ} → TracedTo order roots passes i → k ≤ i → ((v : ℕ) → v < size N → Stands order k v) → AllTraced N roots passes
-  traced-all {order} {roots} {passes} {i} {k} t l all v h = at (all v h)
-    where
-      at : Stands order k v → Traced N roots passes v
-      at (j, m, q) = subst (Traced N roots passes) q (t .done j (omega arith))
+    -- a node with the mark is a register
+    pub back-waiting : Sourced N → Ringless N → {codes reads : List ℕ} {n s : ℕ} → Columns N codes reads n → size N ≡ n → n ≤ 1024 → getD passes u 0 ≡ 65535 → s ≡ getD reads (3 * u) 0 → Back N u s 1
+    back-waiting sourced none k z few m e = back-one sourced none k (omega arith) h (⊎-elim (λ a. absurd (omega (arith, a .through, passed-few N u))) (λ a. a .register) (t .each u h)) e
+
+  pub half-less : {roots passes : List ℕ} {n m : ℕ} → HalfTraced N roots passes n → m ≤ n → HalfTraced N roots passes m
+  half-less t l = record { each = λ s h. t .each s (omega arith) }
+
+  pub half-none : {roots passes : List ℕ} → HalfTraced N roots passes 0
+  half-none = record { each = λ s l. absurd (omega arith) }
+
+  -- ---- node v is written
+
+  module _ {roots passes more through : List ℕ} {v x y : ℕ} (w : Written roots passes more through v x y) where
+    root-written : getD more v 0 ≡ x
+    root-written = ap (λ (l : List ℕ). getD l v 0) (w .roots-are) ∙ getD-set-same roots v x 0 (w .root-room)
+
+    passes-written : getD through v 0 ≡ y
+    passes-written = ap (λ (l : List ℕ). getD l v 0) (w .passes-are) ∙ getD-set-same passes v y 0 (w .pass-room)
+
+    passes-other : (s : ℕ) → (s ≡ v → ⊥) → getD through s 0 ≡ getD passes s 0
+    passes-other s d = ap (λ (l : List ℕ). getD l s 0) (w .passes-are) ∙ getD-set-other passes v s y 0 d
+
+    traced-other : (s : ℕ) → (s ≡ v → ⊥) → Traced N roots passes s → Traced N more through s
+    traced-other s d t = record {
+      from = ap (λ (l : List ℕ). getD l s 0) (w .roots-are) ∙ getD-set-other roots v s x 0 d ∙ t .from;
+      through = passes-other s d ∙ t .through;
+    }
+
+    waits-other : (s : ℕ) → (s ≡ v → ⊥) → Waits N passes s → Waits N through s
+    waits-other s d t = record { mark = passes-other s d ∙ t .mark; register = t .register }
+
+    -- half traced as before, but for node v
+    half-written : {n m : ℕ} → HalfTraced N roots passes n → ((s : ℕ) → s < m → (s ≡ v → ⊥) → s < n) → Traced N more through v ⊎ Waits N through v → HalfTraced N more through m
+    half-written {n} {m} t before now = record {
+      each = λ s l. elim (ℕ-discrete s v) [
+        | yes d ↦ subst (λ (u : ℕ). Traced N more through u ⊎ Waits N through u) (sym d) now
+        | no d ↦ ⊎-elim (λ k. inl (traced-other s d k)) (λ k. inr (waits-other s d k)) (t .each s (before s l d))
+      ];
+    }
+
+    -- marked: its own root, and it waits where it is a register
+    pub marked-more : x ≡ v → y ≡ 65535 * one (isRegister (elementAt N v)) → HalfTraced N roots passes v → HalfTraced N more through (v + 1)
+    marked-more e f t = half-written t (λ s l d. omega (arith, d)) (⊎-elim (λ r. inr (waiting r)) (λ r. inl (own r)) (true-or-false (isRegister (elementAt N v))))
+      where
+        marked : (b : Bool) → isRegister (elementAt N v) ≡ b → getD through v 0 ≡ 65535 * one b
+        marked b r = passes-written ∙ f ∙ ap (λ (k : Bool). 65535 * one k) r
+
+        waiting : isRegister (elementAt N v) ≡ true → Waits N through v
+        waiting r = record { mark = marked true r; register = r }
+
+        own : isRegister (elementAt N v) ≡ false → Traced N more through v
+        own r = record { from = root-written ∙ e ∙ sym (wire-none N v r .0); through = marked false r ∙ sym (wire-none N v r .1) }
+
+    -- traced
+    module _ (e : x ≡ root N v) (f : y ≡ passed N v) where
+      traced-now : Traced N more through v
+      traced-now = record { from = root-written ∙ e; through = passes-written ∙ f }
+
+      pub half-more : {n : ℕ} → HalfTraced N roots passes n → HalfTraced N more through n
+      half-more t = half-written t (λ s l d. l) (inl traced-now)
+
+      pub traced-more : MoreTraced N roots passes more through v
+      traced-more = record {
+        here = traced-now;
+        still = λ s t. elim (ℕ-discrete s v) [
+          | yes d ↦ subst (Traced N more through) (sym d) traced-now
+          | no d ↦ traced-other s d t
+        ];
+      }
+
+-- ---- from v back to u all is traced; the wire of u has its root and passes as many registers as are left
+
+pub record Setting (N : Net) (roots passes more through : List ℕ) (v u root-is left : ℕ) : Type 0 where
+  pub half : HalfTraced N more through (size N)
+  pub still : (s : ℕ) → Traced N roots passes s → Traced N more through s
+  pub begun : (u ≡ v) ⊎ Traced N more through v
+  pub inside : u < size N
+  pub its-root : root-is ≡ root N u
+  pub its-passes : left ≡ passed N u
+
+module _ (N : Net) where
+  pub setting-none : {roots passes : List ℕ} {v x y : ℕ} → HalfTraced N roots passes (size N) → v < size N → x ≡ root N v → y ≡ passed N v → Setting N roots passes roots passes v v x y
+  setting-none t h e f = record { half = t; still = λ s a. a; begun = inl refl; inside = h; its-root = e; its-passes = f }
+
+  module _ {roots passes more through : List ℕ} {v u x y : ℕ} (t : Setting N roots passes more through v u x y) where
+    -- u, which waits, is traced
+    pub setting-more : {more′ through′ : List ℕ} {s left : ℕ} → Written more through more′ through′ u x y → Back N u s 1 → left ≡ y - 1 → Setting N roots passes more′ through′ v s x left
+    setting-more {more′} {through′} w b e = record {
+      half = half-more N w (t .its-root) (t .its-passes) (t .half);
+      still = λ s a. now .still s (t .still s a);
+      begun = inr (⊎-elim (λ d. subst (Traced N more′ through′) d (now .here)) (λ a. now .still v a) (t .begun));
+      inside = b .inside;
+      its-root = t .its-root ∙ b .same-root;
+      its-passes = omega (arith, e, b .more, t .its-passes);
+    }
+      where
+        now : MoreTraced N more through more′ through′ u
+        now = traced-more N w (t .its-root) (t .its-passes)
+
+    -- u does not wait
+    pub setting-done : (getD through u 0 ≡ 65535 → ⊥) → MoreTraced N roots passes more through v
+    setting-done d = record {
+      here = ⊎-elim (λ e. subst (Traced N more through) e (traced-already N (t .half) (t .inside) d)) (λ a. a) (t .begun);
+      still = t .still;
+    }
+
+-- ---- the first i nodes are traced, the others half
+
+pub record TracedTo (N : Net) (roots passes : List ℕ) (i : ℕ) : Type 0 where
+  pub half : HalfTraced N roots passes (size N)
+  pub done : (s : ℕ) → s < i → Traced N roots passes s
+
+pub traced-none : {N : Net} {roots passes : List ℕ} → HalfTraced N roots passes (size N) → TracedTo N roots passes 0
+traced-none t = record { half = t; done = λ s l. absurd (omega arith) }
+
+pub traced-next : {N : Net} {roots passes more through : List ℕ} {i : ℕ} → TracedTo N roots passes i → HalfTraced N more through (size N) → MoreTraced N roots passes more through i → TracedTo N more through (i + 1)
+traced-next {N} {more = more} {through} {i} t h m = record { half = h; done = below-more (Traced N more through) i (λ s l. m .still s (t .done s l)) (m .here) }
