@@ -2,7 +2,7 @@
 use mathlib.Core.Path.{_≡_, refl, sym, ap, _∙_}
 use mathlib.Core.Bool.{Bool, true, false}
 use mathlib.Core.List.{List}
-use Prim.Native.Nat.{ℕ, _+_, _*_, _<_}
+use Prim.Native.Nat.{ℕ, _+_, _*_, _≤_, _<_}
 use native.Mathlib.Omega.{arith}
 use lib.ListN.{getD}
 use lib.Dec.{eqb}
@@ -55,6 +55,15 @@ code-memory (Register r) = refl
 code-memory (Async m) = refl
 code-memory (Clocked m r) = refl
 code-memory (Gate o) = omega (arith, ap one (code-async (Gate o)), ap one (code-clocked (Gate o)))
+
+-- the codes 3 and 4 are those of the ROMs
+pub rom-code : (e : Element) → 3 ≤ codeOf e → codeOf e ≤ 4 → isMemory e ≡ true
+rom-code Input l h = absurd (omega arith)
+rom-code Output l h = absurd (omega arith)
+rom-code (Register r) l h = absurd (omega arith)
+rom-code (Async m) l h = refl
+rom-code (Clocked m r) l h = refl
+rom-code (Gate o) l h = absurd (omega arith)
 
 -- ---- a bit and the test that it stands for
 

@@ -1,17 +1,15 @@
 -- A rank that falls along the steps into registers, read off the columns. Assumes nothing.
-use mathlib.Core.Path.{_≡_, sym, ap, subst, _∙_}
+use mathlib.Core.Path.{_≡_, sym, subst, _∙_}
 use mathlib.Core.Logic.{⊎-elim}
 use mathlib.Core.List.{List}
 use Prim.Native.Nat.{ℕ, suc, _+_, _*_, _<_}
 use native.Mathlib.Omega.{arith}
 use lib.ListN.{getD}
-use borrow.Author.Tests.{eq-eqb, ne-eqb}
 use Rattle.lists.specs.Lists.{one}
-use Rattle.lists.specs.BelowLaws.{lt-suc-split}
+use Rattle.lists.specs.BelowLaws.{lt-suc-split, eqb-true, one-le}
 use Rattle.netlist.specs.Net.{inRegisters, Net, size, elementAt, source, isRegister, RankedIn}
-use Rattle.nodes.specs.Code.{codeOf}
 use Rattle.columns.specs.Columns.{Columns, source-is}
-use Rattle.columns.specs.Kinds.{code-register}
+use Rattle.columns.specs.Kinds.{code-register, bit-true}
 
 -- a rank falls along each step into v, and into each of the first i nodes
 abbrev pub Falls : Net → (ℕ → ℕ) → ℕ → Type 0
@@ -29,14 +27,10 @@ module _ (N : Net) (rank : ℕ → ℕ) where
   falls-all z e f v p h l = f v (omega arith) p l
 
   module _ {codes sources : List ℕ} {n : ℕ} (t : Columns N codes sources n) (v : ℕ) (h : v < n) where
-    -- a register has one source
-    pub register-falls : getD codes v 0 ≡ 2 → rank (getD sources (3 * v) 0) < rank v → Falls N rank v
-    register-falls e r p l =
+    -- a register has one source, and nothing else steps
+    pub code-falls : (getD codes v 0 ≡ 2 → rank (getD sources (3 * v) 0) < rank v) → Falls N rank v
+    code-falls r p l =
         let q = source-is N t v 0 (3 * v) h (omega arith) (omega arith) in
-        let k = ap one (sym (code-register (elementAt N v)) ∙ eq-eqb (codeOf (elementAt N v)) 2 (sym (t .code v h) ∙ e)) in
-        let z : 0 ≡ p = omega (arith, l, k) in
-        subst (λ (j : ℕ). rank (source N v j) < rank v) z (subst (λ (u : ℕ). rank u < rank v) q r)
-
-    pub other-falls : (getD codes v 0 ≡ 2 → ⊥) → Falls N rank v
-    other-falls d p l =
-        absurd (omega (arith, l, ap one (sym (code-register (elementAt N v)) ∙ ne-eqb (codeOf (elementAt N v)) 2 (λ e. d (t .code v h ∙ e)))))
+        let z : 0 ≡ p = omega (arith, l, one-le (isRegister (elementAt N v))) in
+        let k = eqb-true (code-register (elementAt N v) ∙ bit-true (omega (arith, l, one-le (isRegister (elementAt N v))))) in
+        subst (λ (j : ℕ). rank (source N v j) < rank v) z (subst (λ (u : ℕ). rank u < rank v) q (r (t .code v h ∙ k)))

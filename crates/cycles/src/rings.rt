@@ -3,11 +3,13 @@ use super::lowest_cycle;
 use areas::flag_at;
 use areas::number_at;
 use areas::put_number;
+use columns::kinds::code_of;
+use columns::kinds::is_kind;
 use index::wide;
 use order::Steps;
 ghost use mathlib.Core.Path.{_≡_};
 ghost use mathlib.Core.Bool.{true};
-ghost use Prim.Native.Nat.{_≤_};
+ghost use Prim.Native.Nat.{_≤_, _<_};
 ghost use lib.ListN.{length, getD};
 ghost use Rattle.lists.specs.Lists.{lowest};
 ghost use Rattle.netlist.specs.Net.{inRegisters, Sourced, RankedIn};
@@ -15,6 +17,20 @@ ghost use Rattle.netlist.specs.Reach.{reachesItself};
 ghost use Rattle.netlist.specs.ScanLaws.{Found};
 ghost use Rattle.netlist.specs.File.{netIn};
 ghost use Rattle.columns.specs.Columns.{Columns};
+
+// 1 where a rank is no higher than another.
+fn at_most(rank: u16, other: u16) -> usize
+    ensures { λ r. ⌜ (r ≤ 1) × (r ≡ 0 → other < rank) ⌝ }
+{
+    if rank <= other { 1 } else { 0 }
+}
+
+// 1 where a register's rank is no higher than that of what it reads, without a branch: registers stand among the others in no order.
+fn fault(code: usize, rank: u16, read: u16) -> usize
+    ensures { λ r. ⌜ (r ≤ 1) × (r ≡ 0 → code ≡ 2 → read < rank) ⌝ }
+{
+    (is_kind(code, 2) + at_most(rank, read)) / 2
+}
 
 // Registers of which each reads the next: how many, and the rank of what the last one reads.
 pub struct Chain {
@@ -67,8 +83,11 @@ fn rank_registers(codes: &[u8], sources: &[u16], n: usize, ranks: &mut [u16])
 {
     let mut v: usize = 0;
     while v < n {
-        let chain = mark_chain(codes, sources, v, ranks);
-        rank_chain(sources, v, chain, ranks);
+        // Most nodes are no registers, or have a rank from a chain before.
+        if fault(code_of(codes, v), number_at(ranks, v), 0) == 1 {
+            let chain = mark_chain(codes, sources, v, ranks);
+            rank_chain(sources, v, chain, ranks);
+        }
         v = v + 1;
     }
 }
@@ -87,16 +106,13 @@ fn ranked(
     ensures { λ r. ⌜ (r ≡ true → RankedIn inRegisters (netIn (now (file .entry)) (now (tables .entry)) (now (nodes .entry))) (λ v. getD (now (ranks .entry)) v 0)) ⌝ }
 {
     let mut v: usize = 0;
+    let mut faults: usize = 0;
     while v < nodes.len() {
-        if codes[v] == 2 {
-            let u = wide(sources[3 * v]);
-            if number_at(ranks, v) <= number_at(ranks, u) {
-                return false;
-            }
-        }
+        let u = wide(sources[3 * v]);
+        faults = faults + fault(codes[v] as usize, number_at(ranks, v), number_at(ranks, u));
         v = v + 1;
     }
-    true
+    faults == 0
 }
 
 // The lowest register on a ring, or the number of nodes.

@@ -1,5 +1,5 @@
 pub mod RowKinds
-pub mod Fields
+pub mod Inside
 pub mod ByCode
 pub mod Roms
 pub mod Rows

@@ -16,8 +16,8 @@ use Rattle.netlist.specs.Checks.{WellFormed}
 use Rattle.netlist.specs.ScanLaws.{Found}
 use Rattle.netlist.specs.File.{tableIn, netIn}
 use Rattle.netlist.specs.FileLaws.{size-in, tables-in, table-in}
+use Rattle.columns.specs.Fields.{table-at}
 use Rattle.codec.specs.WordsLaws.{word-drop}
-use Rattle.evaluate.proofs.Fields.{table-at}
 use Rattle.evaluate.proofs.ByCode.{memory-at}
 
 module _ (s ts ns : List ℕ) (f : Found s ts ns) (k : ℕ) (h : k < length ts) (a : ℕ)

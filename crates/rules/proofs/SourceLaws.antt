@@ -1,14 +1,14 @@
 -- Check 6 of one node, over plain values. Assumes nothing.
 use mathlib.Core.Path.{_≡_, refl, sym, ap, _∙_}
-use mathlib.Core.Bool.{Bool, true, false, not, _||_}
+use mathlib.Core.Bool.{Bool, true, false, not, _||_, false≢true}
 use mathlib.Core.List.{List}
 use Prim.Native.Nat.{ℕ, _+_, _*_, _≤_, _<_}
 use native.Mathlib.Omega.{arith}
-use lib.ListN.{getD}
-use lib.Dec.{eqb}
-use borrow.Author.Tests.{ne-eqb}
+use lib.ListN.{length, getD}
+use lib.Dec.{eqb, ltb}
+use borrow.Author.Tests.{ne-eqb, lt-ltb, le-ltb}
 use Rattle.lists.specs.Lists.{anyBelow}
-use Rattle.netlist.specs.Net.{Table, Net, elementAt, source, operands, isOutput}
+use Rattle.netlist.specs.Net.{Table, Net, elementAt, source, operands, isOutput, isMemory, tableOf}
 use Rattle.netlist.specs.Verdict.{tableThere, noSource, badSource}
 use Rattle.netlist.specs.declared.Element.{Element}
 use Rattle.netlist.specs.declared.Element.the-variants.{Input, Output, Register, Async, Clocked, Gate}
@@ -32,6 +32,22 @@ no-rom ts (Register r) a b = refl
 no-rom ts (Async m) a b = absurd (a refl)
 no-rom ts (Clocked m r) a b = absurd (b refl)
 no-rom ts (Gate o) a b = refl
+
+-- a ROM's table is there where its number is one of the tables'
+rom-there : (ts : List Table) (e : Element) → isMemory e ≡ true → ltb (tableOf e) (length ts) ≡ tableThere ts e
+rom-there ts Input m = absurd (false≢true m)
+rom-there ts Output m = absurd (false≢true m)
+rom-there ts (Register r) m = absurd (false≢true m)
+rom-there ts (Async x) m = refl
+rom-there ts (Clocked x r) m = refl
+rom-there ts (Gate o) m = absurd (false≢true m)
+
+module _ (ts : List Table) (e : Element) (m : isMemory e ≡ true) {n k : ℕ} (z : length ts ≡ n) (q : k ≡ tableOf e) where
+  pub table-here : k < n → false ≡ not (tableThere ts e)
+  table-here l = ap not (sym (lt-ltb (tableOf e) (length ts) (omega arith)) ∙ rom-there ts e m)
+
+  pub table-nowhere : (k < n → ⊥) → true ≡ not (tableThere ts e)
+  table-nowhere l = ap not (sym (le-ltb (tableOf e) (length ts) (omega arith)) ∙ rom-there ts e m)
 
 module _ (N : Net) (v : ℕ) where
   pub missing : not (tableThere (N .tables) (elementAt N v)) ≡ true → true ≡ badSource N v

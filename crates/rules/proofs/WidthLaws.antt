@@ -2,17 +2,17 @@
 use mathlib.Core.Path.{_≡_, refl, sym, ap, _∙_}
 use mathlib.Core.Bool.{Bool, true, false, not, _&&_, false≢true}
 use mathlib.Core.List.{List, [], _∷_}
-use Prim.Native.Nat.{ℕ, _+_}
+use Prim.Native.Nat.{ℕ, _+_, _≤_}
+use native.Mathlib.Omega.{arith}
 use lib.ListN.{getD}
-use lib.Dec.{eqb}
+use lib.Dec.{eqb, leb}
 use borrow.Author.Tests.{eq-eqb, ne-eqb}
 use Rattle.words.specs.declared.Op.{Op}
 use Rattle.words.specs.declared.Op.the-variants.{Constant, Not, And, Or, Xor, Add, Subtract, Equal, Less, Choose, Part, Join}
-use Rattle.netlist.specs.Net.{Table, Net, elementAt, widthAt, source}
+use Rattle.netlist.specs.Net.{Table, noTable, Net, elementAt, widthAt, source, isMemory, tableOf}
 use Rattle.netlist.specs.NodeField.{opNumber}
 use Rattle.nodes.specs.Code.{codeOf}
-use Rattle.netlist.specs.Verdict.{opWidths, memoryRight, widthsRight, badWidth}
-use Rattle.netlist.specs.declared.Memory.{Memory}
+use Rattle.netlist.specs.Verdict.{opWidths, widthsRight, badWidth}
 use Rattle.netlist.specs.declared.Element.{Element}
 use Rattle.netlist.specs.declared.Element.the-variants.{Input, Output, Register, Async, Clocked, Gate}
 use Rattle.rules.specs.Three.{three}
@@ -54,16 +54,16 @@ unfolding badWidth
 judged N v w a b c o p q s r h =
     ap not (sym h ∙ (λ i. widthsRight (N .tables) (elementAt N v) (o i) (three (p i) (q i) (s i))) ∙ right-three (N .tables) (elementAt N v) (widthAt N v) (λ j. widthAt N (source N v j)))
 
--- ---- the rules by code, but for ROMs and parts, whose rules need more than the widths
+-- ---- the rules by code, but for ROMs and parts, whose rules need more than the widths: there stands true
 
 abbrev rules : ℕ → ℕ → ℕ → ℕ → List Bool
 rules w a b c =
     true ∷ eqb a w ∷ eqb a w ∷ true ∷ true ∷ true ∷ eqb a w ∷ (eqb a w && eqb b w) ∷ (eqb a w && eqb b w) ∷ (eqb a w && eqb b w) ∷ (eqb a w && eqb b w) ∷ (eqb a w && eqb b w)
-    ∷ (eqb a b && eqb w 1) ∷ (eqb a b && eqb w 1) ∷ (eqb a 1 && (eqb b w && eqb c w)) ∷ []
+    ∷ (eqb a b && eqb w 1) ∷ (eqb a b && eqb w 1) ∷ (eqb a 1 && (eqb b w && eqb c w)) ∷ true ∷ eqb (a + b) w ∷ []
 
 -- those that are told by the code
 abbrev plain : ℕ → Bool
-plain k = getD (true ∷ true ∷ true ∷ false ∷ false ∷ true ∷ true ∷ true ∷ true ∷ true ∷ true ∷ true ∷ true ∷ true ∷ true ∷ []) k false
+plain k = getD (true ∷ true ∷ true ∷ false ∷ false ∷ true ∷ true ∷ true ∷ true ∷ true ∷ true ∷ true ∷ true ∷ true ∷ true ∷ false ∷ true ∷ []) k false
 
 module _ (ts : List Table) (w a b c : ℕ) where
   of-op : (o : Op) → plain (5 + opNumber o) ≡ true → getD (rules w a b c) (5 + opNumber o) true ≡ opWidths o w (three a b c)
@@ -78,7 +78,7 @@ module _ (ts : List Table) (w a b c : ℕ) where
   of-op Less h = refl
   of-op Choose h = refl
   of-op (Part l) h = absurd (false≢true h)
-  of-op Join h = absurd (false≢true h)
+  of-op Join h = refl
 
   by-code : (e : Element) → plain (codeOf e) ≡ true → getD (rules w a b c) (codeOf e) true ≡ widthsRight ts e w (three a b c)
   by-code Input h = refl
@@ -94,10 +94,38 @@ module _ (ts : List Table) (w a b c : ℕ) where
       let d : k ≡ codeOf e = sym q ∙ p in
       g ∙ ap (λ (j : ℕ). getD (rules w a b c) j true) d ∙ by-code e (sym (ap plain d) ∙ h)
 
--- a memory's two widths
-module _ (t : Table) (m : Memory) (w a : ℕ) (ws : ℕ → ℕ) (e : ws 0 ≡ a) where
-  pub memory-on : a ≡ t .bits → (r : Bool) → r ≡ eqb w (t .wide) → r ≡ memoryRight t m w ws
-  memory-on h r q = and-on (eqb (ws 0) (t .bits)) (eqb w (t .wide)) (eq-eqb (ws 0) (t .bits) (e ∙ h)) q
+-- a code that is at least n and not n
+pub past : {k n : ℕ} → n ≤ k → (k ≡ n → ⊥) → n + 1 ≤ k
+past l d = omega arith
 
-  pub memory-off : (a ≡ t .bits → ⊥) → false ≡ memoryRight t m w ws
-  memory-off h = and-off (eqb (ws 0) (t .bits)) (eqb w (t .wide)) (ne-eqb (ws 0) (t .bits) (λ q. h (sym e ∙ q)))
+-- ---- a ROM, by its table
+
+rom-rule : (ts : List Table) (e : Element) (w : ℕ) (ws : ℕ → ℕ) → isMemory e ≡ true
+    → (eqb (ws 0) (getD ts (tableOf e) noTable .bits) && eqb w (getD ts (tableOf e) noTable .wide)) ≡ widthsRight ts e w ws
+rom-rule ts Input w ws m = absurd (false≢true m)
+rom-rule ts Output w ws m = absurd (false≢true m)
+rom-rule ts (Register r) w ws m = absurd (false≢true m)
+rom-rule ts (Async x) w ws m = refl
+rom-rule ts (Clocked x r) w ws m = refl
+rom-rule ts (Gate o) w ws m = absurd (false≢true m)
+
+module _ (ts : List Table) (e : Element) (m : isMemory e ≡ true) {k : ℕ} (q : k ≡ tableOf e) (w a : ℕ) (ws : ℕ → ℕ) (f : ws 0 ≡ a) where
+  abbrev own : ℕ → Table
+  own j = getD ts j noTable
+
+  pub memory-on : a ≡ own k .bits → (r : Bool) → r ≡ eqb w (own k .wide) → r ≡ widthsRight ts e w ws
+  memory-on h r g =
+      and-on (eqb (ws 0) (own (tableOf e) .bits)) (eqb w (own (tableOf e) .wide))
+      (eq-eqb (ws 0) (own (tableOf e) .bits) (f ∙ h ∙ ap (λ (j : ℕ). own j .bits) q)) (g ∙ ap (λ (j : ℕ). eqb w (own j .wide)) q)
+      ∙ rom-rule ts e w ws m
+
+  pub memory-off : (a ≡ own k .bits → ⊥) → false ≡ widthsRight ts e w ws
+  memory-off h =
+      and-off (eqb (ws 0) (own (tableOf e) .bits)) (eqb w (own (tableOf e) .wide))
+      (ne-eqb (ws 0) (own (tableOf e) .bits) (λ g. h (sym f ∙ g ∙ sym (ap (λ (j : ℕ). own j .bits) q))))
+      ∙ rom-rule ts e w ws m
+
+-- ---- a part, by its lowest bit
+
+pub part-rule : (ts : List Table) {e : Element} {low : ℕ} → Gate (Part low) ≡ e → (w a : ℕ) (ws : ℕ → ℕ) → ws 0 ≡ a → leb (low + w) a ≡ widthsRight ts e w ws
+part-rule ts {e} {low} q w a ws f = sym (ap (leb (low + w)) f) ∙ ap (λ (x : Element). widthsRight ts x w ws) q

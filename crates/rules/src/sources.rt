@@ -1,41 +1,27 @@
 // Check 6: no such node or table, or an output port as source.
-use index::node;
 use index::wide;
-use netlist::Element;
 use nodes::code_sources;
 ghost use mathlib.Core.Path.{_≡_};
-ghost use mathlib.Core.List.{List};
-ghost use mathlib.Core.Bool.{not};
+ghost use mathlib.Core.Bool.{true, not};
 ghost use Prim.Native.Nat.{_+_, _<_, _≤_};
 ghost use lib.ListN.{length, getD};
 ghost use Rattle.lists.specs.Lists.{anyBelow, lowest};
-ghost use Rattle.netlist.specs.Net.{Table, elementAt, operands};
+ghost use Rattle.netlist.specs.Net.{elementAt, operands, isMemory, tableOf};
 ghost use Rattle.columns.specs.Columns.{Columns};
 ghost use Rattle.netlist.specs.Verdict.{tableThere, noSource, badSource};
 ghost use Rattle.netlist.specs.ScanLaws.{Found};
 ghost use Rattle.netlist.specs.File.{netIn};
 
-// Whether an element's table is one of so many.
-fn table_there(e: Element, count: usize) -> bool
-    ensures { λ r. ⌜ ((ts : List Table) → length ts ≡ count → r ≡ tableThere ts e) ⌝ }
+// The number of a ROM's table, which stands in the file.
+pub fn table_of(file: &[u8], tables: &[u16], nodes: &[u16], v: usize) -> usize
+    requires { ⌜ Found (now file) (now tables) (now nodes) × (v < length (now nodes)) × (isMemory (elementAt (netIn (now file) (now tables) (now nodes)) v) ≡ true) ⌝ }
+    ensures { λ r. ⌜ r ≡ tableOf (elementAt (netIn (now (file .entry)) (now (tables .entry)) (now (nodes .entry))) v) ⌝ }
 {
-    match e {
-        Element::Input => true,
-        Element::Output => true,
-        Element::Register(_) => true,
-        Element::Async(m) => {
-            let k = m.table;
-            (k as usize) < count
-        }
-        Element::Clocked(m, _) => {
-            let k = m.table;
-            (k as usize) < count
-        }
-        Element::Gate(_) => true,
-    }
+    let at = wide(nodes[v]);
+    file[at + 7] as usize
 }
 
-// Whether the table of node v is missing. Only a ROM is read for it: the code tells all others.
+// Whether the table of node v is missing. Only a ROM has one, and the code tells the ROMs.
 fn table_missing(
     file: &[u8],
     tables: &[u16],
@@ -54,9 +40,7 @@ fn table_missing(
     if 4 < code {
         return false;
     }
-    let x = node(file, tables, nodes, v);
-    let e = x.element;
-    if table_there(e, tables.len()) {
+    if table_of(file, tables, nodes, v) < tables.len() {
         false
     } else {
         true

@@ -1,21 +1,18 @@
 // Check 7: the width rules.
+use super::sources::table_of;
 use index::address_bits;
-use index::node;
 use index::wide;
 use index::word_width;
-use netlist::Element;
-use netlist::Memory;
-use words::Op;
 ghost use mathlib.Core.Path.{_≡_};
-ghost use mathlib.Core.Bool.{_&&_};
+ghost use mathlib.Core.Bool.{true, _&&_};
 ghost use lib.Dec.{eqb};
-ghost use Prim.Native.Nat.{ℕ, _+_, _<_};
-ghost use lib.ListN.{length, getD};
+ghost use Prim.Native.Nat.{ℕ, _<_};
+ghost use lib.ListN.{length};
 ghost use Rattle.lists.specs.Lists.{lowest};
-ghost use Rattle.netlist.specs.Net.{noTable, elementAt, widthAt};
+ghost use Rattle.netlist.specs.Net.{elementAt, widthAt, isMemory};
 ghost use Rattle.nodes.specs.Code.{codeOf};
 ghost use Rattle.columns.specs.Columns.{Columns, Widths};
-ghost use Rattle.netlist.specs.Verdict.{opWidths, memoryRight, widthsRight, badWidth};
+ghost use Rattle.netlist.specs.Verdict.{widthsRight, badWidth};
 ghost use Rattle.netlist.specs.ScanLaws.{Found};
 ghost use Rattle.netlist.specs.File.{netIn};
 ghost use Rattle.rules.specs.Three.{three};
@@ -41,32 +38,12 @@ fn chooses(w: u8, a: u8, b: u8, c: u8) -> bool
     if a == 1 { both_are(w, b, c) } else { false }
 }
 
-// The width rule of an operation of width w over sources of widths a, b and c.
-fn op_widths(op: Op, w: u8, a: u8, b: u8, c: u8) -> bool
-    ensures { λ r. ⌜ r ≡ opWidths op w (three a b c) ⌝ }
+// The width rule of node v, a ROM of width w whose source has width a.
+fn memory_widths(file: &[u8], tables: &[u16], nodes: &[u16], v: usize, w: u8, a: u8) -> bool
+    requires { ⌜ Found (now file) (now tables) (now nodes) × (v < length (now nodes)) × (isMemory (elementAt (netIn (now file) (now tables) (now nodes)) v) ≡ true) ⌝ }
+    ensures { λ r. ⌜ ((ws : ℕ → ℕ) → ws 0 ≡ a → r ≡ widthsRight (netIn (now (file .entry)) (now (tables .entry)) (now (nodes .entry)) .tables) (elementAt (netIn (now (file .entry)) (now (tables .entry)) (now (nodes .entry))) v) w ws) ⌝ }
 {
-    match op {
-        Op::Constant(_) => true,
-        Op::Not => a == w,
-        Op::And => both_are(w, a, b),
-        Op::Or => both_are(w, a, b),
-        Op::Xor => both_are(w, a, b),
-        Op::Add => both_are(w, a, b),
-        Op::Subtract => both_are(w, a, b),
-        Op::Equal => compares(w, a, b),
-        Op::Less => compares(w, a, b),
-        Op::Choose => chooses(w, a, b, c),
-        Op::Part(low) => (low as u32) + (w as u32) <= (a as u32),
-        Op::Join => (a as u32) + (b as u32) == (w as u32),
-    }
-}
-
-// The width rule of a ROM of width w whose source has width a.
-fn memory_widths(file: &[u8], tables: &[u16], nodes: &[u16], m: Memory, w: u8, a: u8) -> bool
-    requires { ⌜ Found (now file) (now tables) (now nodes) ⌝ }
-    ensures { λ r. ⌜ ((ws : ℕ → ℕ) → ws 0 ≡ a → r ≡ memoryRight (getD (netIn (now (file .entry)) (now (tables .entry)) (now (nodes .entry)) .tables) (m .table) noTable) m w ws) ⌝ }
-{
-    let k = m.table as usize;
+    let k = table_of(file, tables, nodes, v);
     if a == address_bits(file, tables, nodes, k) {
         w == word_width(file, tables, nodes, k)
     } else {
@@ -74,28 +51,14 @@ fn memory_widths(file: &[u8], tables: &[u16], nodes: &[u16], m: Memory, w: u8, a
     }
 }
 
-// The width rule of an element.
-fn element_widths(
-    file: &[u8],
-    tables: &[u16],
-    nodes: &[u16],
-    e: Element,
-    w: u8,
-    a: u8,
-    b: u8,
-    c: u8,
-) -> bool
-    requires { ⌜ Found (now file) (now tables) (now nodes) ⌝ }
-    ensures { λ r. ⌜ r ≡ widthsRight (netIn (now (file .entry)) (now (tables .entry)) (now (nodes .entry)) .tables) e w (three a b c) ⌝ }
+// The width rule of node v, a part of width w whose source has width a. Its lowest bit stands in the file.
+fn part_widths(file: &[u8], tables: &[u16], nodes: &[u16], v: usize, w: u8, a: u8) -> bool
+    requires { ⌜ Found (now file) (now tables) (now nodes) × (v < length (now nodes)) × (15 ≡ codeOf (elementAt (netIn (now file) (now tables) (now nodes)) v)) ⌝ }
+    ensures { λ r. ⌜ ((ws : ℕ → ℕ) → ws 0 ≡ a → r ≡ widthsRight (netIn (now (file .entry)) (now (tables .entry)) (now (nodes .entry)) .tables) (elementAt (netIn (now (file .entry)) (now (tables .entry)) (now (nodes .entry))) v) w ws) ⌝ }
 {
-    match e {
-        Element::Input => true,
-        Element::Output => a == w,
-        Element::Register(_) => a == w,
-        Element::Async(m) => memory_widths(file, tables, nodes, m, w, a),
-        Element::Clocked(m, _) => memory_widths(file, tables, nodes, m, w, a),
-        Element::Gate(op) => op_widths(op, w, a, b, c),
-    }
+    let at = wide(nodes[v]);
+    let low = file[at + 8];
+    (low as u32) + (w as u32) <= (a as u32)
 }
 
 // The width of node u; past the last 1, as the definitions say.
@@ -106,7 +69,7 @@ fn width_of(file: &[u8], tables: &[u16], nodes: &[u16], u: usize, widths: &[u8])
     if u < nodes.len() { widths[u] } else { 1 }
 }
 
-// The width rule of node v, by its code where that says all; a ROM and a part are read.
+// The width rule of node v by its code.
 fn width_rule(
     file: &[u8],
     tables: &[u16],
@@ -125,6 +88,8 @@ fn width_rule(
         0 => true,
         1 => a == w,
         2 => a == w,
+        3 => memory_widths(file, tables, nodes, v, w, a),
+        4 => memory_widths(file, tables, nodes, v, w, a),
         5 => true,
         6 => a == w,
         7 => both_are(w, a, b),
@@ -135,11 +100,9 @@ fn width_rule(
         12 => compares(w, a, b),
         13 => compares(w, a, b),
         14 => chooses(w, a, b, c),
-        _ => {
-            let x = node(file, tables, nodes, v);
-            let e = x.element;
-            element_widths(file, tables, nodes, e, w, a, b, c)
-        }
+        15 => part_widths(file, tables, nodes, v, w, a),
+        // A join.
+        _ => (a as u32) + (b as u32) == (w as u32),
     }
 }
 

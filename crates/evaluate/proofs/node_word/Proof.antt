@@ -8,7 +8,8 @@ use Rattle.netlist.specs.Net.{contentsAt}
 use Rattle.netlist.specs.File.{netIn}
 use Rattle.netlist.specs.FileLaws.{size-in}
 use Rattle.columns.specs.Columns.{code-small}
-use Rattle.evaluate.proofs.Fields.{constant-long, constant-at, part-long, part-at, plain-at, source-inside}
+use Rattle.columns.specs.Fields.{constant-long, constant-at, part-long, part-at, plain-at}
+use Rattle.evaluate.proofs.Inside.{source-inside}
 use Rattle.evaluate.proofs.ByCode.{own-code, gate-code, node-own, node-output, node-async, async-asks, places-inside, gathered, gate-gathered, gate-asks}
 use Rattle.evaluate.proofs.node_word.Statement.{statement}
 use Rattle.evaluate.proofs.node_word.Tie as tie

@@ -1,6 +1,8 @@
 -- The loop's invariant: the ranks keep their number.
-use mathlib.Core.Path.{_≡_, refl, _∙_}
-use Prim.Native.Nat.{_-_}
+use mathlib.Core.Path.{_≡_, refl, ap, _∙_}
+use mathlib.Core.Logic.{⊎-elim}
+use mathlib.Core.List.{List}
+use Prim.Native.Nat.{ℕ, _-_}
 use native.Mathlib.Omega.{arith}
 use lib.ListN.{length}
 use borrow.Author.Needs.{needs}
@@ -16,20 +18,33 @@ abbrev μ-loop : tie.MeasureT-loop
 loop-holds : tie.Need-loop-holds Inv-loop μ-loop
 loop-holds c = refl
 
+code-of-requires : tie.Need-code-of-requires Inv-loop μ-loop
+code-of-requires c κs = search needs
+
+number-at-requires : tie.Need-number-at-requires Inv-loop μ-loop
+number-at-requires c κs = search needs
+
+fault-requires : tie.Need-fault-requires Inv-loop μ-loop
+fault-requires c κs = search needs
+
 mark-chain-requires : tie.Need-mark-chain-requires Inv-loop μ-loop
-mark-chain-requires c κs = omega (arith, c .before .loop-test .taken, c .before .before .before .before .before .before .pre)
+mark-chain-requires c κs = omega (arith, c .before .before .before .before .before .before .loop-test .taken, c .before .before .before .before .before .before .before .before .before .before .before .pre)
 
 rank-chain-requires : tie.Need-rank-chain-requires Inv-loop μ-loop
-rank-chain-requires c κs = (omega (arith, c .before .before .before .before .before .loop-test .taken, c .before .before .before .before .before .before .before .before .before .before .pre), c .before .before .before .mark-chain .ensures)
+rank-chain-requires c κs = (omega (arith, c .before .before .before .before .before .before .before .before .before .before .loop-test .taken, c .before .before .before .before .before .before .before .before .before .before .before .before .before .before .before .pre), c .before .before .before .mark-chain .ensures)
 
 add-v : tie.Need-add-v Inv-loop μ-loop
-add-v c = omega (arith, c .before .before .before .before .before .before .before .before .loop-test .taken, c .before .before .before .before .before .before .before .before .before .before .before .before .before .pre)
+add-v c = omega (arith, c .before .before .before .before .before .loop-test .taken, c .before .before .before .before .before .before .before .before .before .before .pre)
 
 loop-less : tie.Need-loop-less Inv-loop μ-loop
 loop-less c = omega arith
 
 loop-again : tie.Need-loop-again Inv-loop μ-loop
-loop-again c = c .before .before .rank-chain .kept .1 .1 .1 .0 ∙ c .before .before .before .before .before .before .mark-chain .kept .1 .1 .1 .0 ∙ c .before .before .before .before .before .before .before .before .before .loop .inv
+loop-again c =
+    ⊎-elim
+    (λ w. ap (λ (x : List ℕ). length x) (w .9) ∙ w .6 .kept .1 .1 .1 .0 ∙ w .2 .kept .1 .1 .1 .0 ∙ c .before .before .before .before .before .before .loop .inv)
+    (λ w. ap (λ (x : List ℕ). length x) (w .1) ∙ c .before .before .before .before .before .before .loop .inv)
+    (c .if1 .came)
 
 same-length : tie.Need-same-length Inv-loop μ-loop
 same-length c = c .before .loop .inv
@@ -44,6 +59,9 @@ rank-registers-spec =
     Inv-loop
     μ-loop
     loop-holds
+    code-of-requires
+    number-at-requires
+    fault-requires
     mark-chain-requires
     rank-chain-requires
     add-v

@@ -12,23 +12,19 @@ use Rattle.lists.specs.BelowLaws.{lt-or-le}
 use Rattle.words.specs.Words.{word}
 use Rattle.words.specs.declared.Op.{Op}
 use Rattle.words.specs.declared.Op.the-variants.{Constant, Part}
-use Rattle.netlist.specs.Net.{size, nodeAt, elementAt, source, operands, isMemory, tableOf, Sourced}
+use Rattle.netlist.specs.Net.{elementAt, isMemory, tableOf}
 use Rattle.netlist.specs.Field.{lengthAt, content}
 use Rattle.netlist.specs.NodeField.{gateLength, plainOp, nodeRead, nodeWith}
 use Rattle.netlist.specs.TableLaws.{content-length}
-use Rattle.netlist.specs.Checks.{WellFormed}
 use Rattle.netlist.specs.ScanLaws.{NodeAt, Found}
 use Rattle.netlist.specs.File.{nodeIn, netIn}
-use Rattle.netlist.specs.FileLaws.{size-in, node-in}
+use Rattle.netlist.specs.FileLaws.{node-in}
 use Rattle.netlist.specs.declared.Element.{Element}
 use Rattle.netlist.specs.declared.Element.the-variants.{Gate}
 use Rattle.netlist.specs.declared.ElementRead.{ElementRead}
 use Rattle.netlist.specs.declared.Node.{Node}
 use Rattle.nodes.specs.Code.{codeOf, gate-code, kind-code}
 use Rattle.nodes.specs.Unchecked.{opUnchecked, elementUnchecked, is-gate, Lengths, unchecked, lengths}
-use Rattle.codec.specs.Bytes.{Bytes}
-use Rattle.codec.specs.FieldCame.{content-bytes}
-use Rattle.codec.specs.NodeCame.{node-fits}
 
 -- ---- a node field at an offset
 
@@ -150,16 +146,3 @@ module _ (s ts ns : List ℕ) (f : Found s ts ns) {v : ℕ} (h : v < length ns) 
 
     pub plain-at : 5 ≤ code → (code ≡ 5 → ⊥) → (code ≡ 15 → ⊥) → {o : Op} → o ≡ plainOp (code - 5) → Gate o ≡ elementAt (netIn s ts ns) v
     plain-at l a b q = plain-here s at field-at told l a b q ∙ element-at
-
--- all three sources are nodes, as an element with fewer has 0 for the others
-pub source-inside : (s ts ns : List ℕ) → Found s ts ns → Bytes s → WellFormed (netIn s ts ns) → (v : ℕ) → v < length ns → (p : ℕ) → source (netIn s ts ns) v p < length ns
-unfolding Sourced source elementAt nodeIn
-source-inside s ts ns f b wf v h p =
-    let z = size-in s ts ns in
-    let N = netIn s ts ns in
-    ⊎-elim (λ l. let k : source N v p < size N = wf .sourced v p (omega arith) l in omega arith)
-    (λ l. omega (arith, unread l)) (lt-or-le p (operands (elementAt N v)))
-  where
-    unread : operands (nodeAt (netIn s ts ns) v .element) ≤ p → getD (nodeAt (netIn s ts ns) v .sources) p 0 ≡ 0
-    unread = subst (λ (x : Node). operands (x .element) ≤ p → getD (x .sources) p 0 ≡ 0) (sym (node-in s ts ns v h))
-        (node-fits (content s (getD ns v 0)) (content-bytes s b (getD ns v 0)) (f .nodes v h .good) .recorded .unread p)
