@@ -30,12 +30,12 @@ pub fn put_number(numbers: &mut [u16], i: usize, x: u16)
     }
 }
 
-pub fn fill(numbers: &mut [u16], x: u16)
-    ensures { λ _. ⌜ now (numbers .exit) ≡ replicate (length (now (numbers .entry))) x ⌝ }
+pub fn fill(numbers: &mut [u16], each: u16)
+    ensures { λ _. ⌜ now (numbers .exit) ≡ replicate (length (now (numbers .entry))) each ⌝ }
 {
     let mut i: usize = 0;
     while i < numbers.len() {
-        numbers[i] = x;
+        numbers[i] = each;
         i = i + 1;
     }
 }
