@@ -1,14 +1,13 @@
 // The nodes and tables of an indexed file by their numbers. A number that no node or table has reads as the definitions say.
 use netlist::Node;
 use reader::node_at;
-use reader::output_at;
 use reader::table_bits;
 use reader::table_width;
 use reader::width_at;
 ghost use mathlib.Core.Path.{_≡_};
 ghost use Prim.Native.Nat.{_<_, _≤_};
 ghost use lib.ListN.{length, getD};
-ghost use Rattle.netlist.specs.Net.{nodeAt, widthAt, elementAt, noTable, isOutput};
+ghost use Rattle.netlist.specs.Net.{nodeAt, widthAt, noTable};
 ghost use Rattle.netlist.specs.ScanLaws.{Found};
 ghost use Rattle.netlist.specs.File.{netIn};
 
@@ -41,17 +40,6 @@ pub fn width(file: &[u8], tables: &[u16], nodes: &[u16], v: usize) -> u8
         width_at(file, wide(nodes[v]))
     } else {
         NO_NODE_WIDTH
-    }
-}
-
-pub fn output_port(file: &[u8], tables: &[u16], nodes: &[u16], v: usize) -> bool
-    requires { ⌜ Found (now file) (now tables) (now nodes) ⌝ }
-    ensures { λ r. ⌜ r ≡ isOutput (elementAt (netIn (now (file .entry)) (now (tables .entry)) (now (nodes .entry))) v) ⌝ }
-{
-    if v < nodes.len() {
-        output_at(file, wide(nodes[v]))
-    } else {
-        false
     }
 }
 

@@ -2,13 +2,7 @@
 pub mod good;
 
 use netlist::Element;
-use netlist::ElementRead;
-use netlist::Memory;
-use netlist::Node;
-use netlist::NodeRead;
-use netlist::OpRead;
 use words::Op;
-use words::fits_width;
 use words::operand_count;
 use words::word_at;
 ghost use mathlib.Core.Path.{_≡_};
@@ -20,20 +14,7 @@ ghost use Rattle.words.specs.Words.{word};
 ghost use Rattle.words.specs.Gates.{operandsOf};
 ghost use Rattle.netlist.specs.Net.{operands};
 ghost use Rattle.nodes.specs.Code.{sourcesByCode, clockByCode};
-ghost use Rattle.netlist.specs.NodeField.{gateLength, opNumber, plainOp, opRead, kindRead, elementRead, nodeRead, sourcesFrom, firstSource};
-
-// The length of a gate's content.
-fn gate_len(op: usize) -> usize
-    requires { ⌜ op < 12 ⌝ }
-    ensures { λ r. ⌜ r ≡ gateLength op ⌝ }
-{
-    let n = 3 + 2 * operand_count(op);
-    match op {
-        0 => n + 2,
-        10 => n + 1,
-        _ => n,
-    }
-}
+ghost use Rattle.netlist.specs.NodeField.{opNumber, plainOp, sourcesFrom, firstSource};
 
 // The operation that is its number alone.
 pub fn plain_op(k: u8) -> Op
@@ -54,113 +35,8 @@ pub fn plain_op(k: u8) -> Op
     }
 }
 
-// The operation of a gate's content.
-fn op_of(s: &[u8]) -> OpRead
-    requires { ⌜ getD (now s) 1 0 ≤ 16 ⌝ }
-    ensures { λ r. ⌜ r ≡ opRead (now (s .entry)) ⌝ }
-{
-    if s.len() < 3 {
-        return OpRead::Bad;
-    }
-    let k = s[2];
-    if 11 < k {
-        return OpRead::Bad;
-    }
-    if s.len() != gate_len(k as usize) {
-        return OpRead::Bad;
-    }
-    if k == 0 {
-        let value = word_at(s, 3);
-        if fits_width(value, s[1]) {
-            OpRead::Found(Op::Constant(value))
-        } else {
-            OpRead::Bad
-        }
-    } else if k == 10 {
-        OpRead::Found(Op::Part(s[5]))
-    } else {
-        OpRead::Found(plain_op(k))
-    }
-}
-
-// The element of a content whose kind is k.
-fn element_by(s: &[u8], k: u8) -> ElementRead
-    requires { ⌜ (2 ≤ length (now s)) × (getD (now s) 1 0 ≤ 16) ⌝ }
-    ensures { λ r. ⌜ r ≡ kindRead k (now (s .entry)) ⌝ }
-{
-    match k {
-        0 => {
-            if s.len() == 2 {
-                ElementRead::Found(Element::Input)
-            } else {
-                ElementRead::Bad
-            }
-        }
-        1 => {
-            if s.len() == 4 {
-                ElementRead::Found(Element::Output)
-            } else {
-                ElementRead::Bad
-            }
-        }
-        2 => {
-            if s.len() == 6 {
-                let reset = word_at(s, 4);
-                if fits_width(reset, s[1]) {
-                    ElementRead::Found(Element::Register(reset))
-                } else {
-                    ElementRead::Bad
-                }
-            } else {
-                ElementRead::Bad
-            }
-        }
-        3 => {
-            if s.len() == 5 {
-                ElementRead::Found(Element::Async(Memory { table: s[4] }))
-            } else {
-                ElementRead::Bad
-            }
-        }
-        4 => {
-            if s.len() == 7 {
-                let reset = word_at(s, 5);
-                if fits_width(reset, s[1]) {
-                    ElementRead::Found(Element::Clocked(Memory { table: s[4] }, reset))
-                } else {
-                    ElementRead::Bad
-                }
-            } else {
-                ElementRead::Bad
-            }
-        }
-        5 => match op_of(s) {
-            OpRead::Found(op) => ElementRead::Found(Element::Gate(op)),
-            OpRead::Bad => ElementRead::Bad,
-        },
-        _ => ElementRead::Bad,
-    }
-}
-
-// The element of a content.
-fn element_of(s: &[u8]) -> ElementRead
-    ensures { λ r. ⌜ r ≡ elementRead (now (s .entry)) ⌝ }
-{
-    if s.len() < 2 {
-        return ElementRead::Bad;
-    }
-    let width = s[1];
-    if width == 0 {
-        return ElementRead::Bad;
-    }
-    if 16 < width {
-        return ElementRead::Bad;
-    }
-    element_by(s, s[0])
-}
-
 // The number of an operation.
-fn op_index(op: Op) -> usize
+pub fn op_index(op: Op) -> usize
     ensures { λ r. ⌜ (r ≡ opNumber op) × (r < 12) ⌝ }
 {
     match op {
@@ -261,33 +137,4 @@ pub fn sources_from(s: &[u8], at: usize, n: usize) -> Sources
     let second = word_if(s, at + 2, 1, n);
     let third = word_if(s, at + 4, 2, n);
     [first, second, third]
-}
-
-// The node of a content, and whether there is one: check 5 but for the count of nodes.
-pub fn node_of(s: &[u8]) -> NodeRead
-    ensures { λ r. ⌜ r ≡ nodeRead (now (s .entry)) ⌝ }
-{
-    match element_of(s) {
-        ElementRead::Bad => NodeRead {
-            good: false,
-            node: Node {
-                element: Element::Input,
-                width: 0,
-                sources: [0, 0, 0],
-            },
-        },
-        ElementRead::Found(e) => {
-            let from = first_source(e);
-            let n = source_count(e);
-            let sources = sources_from(s, from, n);
-            NodeRead {
-                good: true,
-                node: Node {
-                    element: e,
-                    width: s[1],
-                    sources,
-                },
-            }
-        }
-    }
 }

@@ -24,7 +24,6 @@ ghost use Rattle.netlist.specs.Field.{fieldEnd, content};
 ghost use Rattle.netlist.specs.TableField.{tableGood};
 ghost use Rattle.netlist.specs.Scan.{tableStep, nodeStep, endStep, stepAt, scan};
 ghost use Rattle.netlist.specs.ScanLaws.{TableAt, NodeAt};
-ghost use Rattle.netlist.specs.Net.{isOutput};
 ghost use Rattle.netlist.specs.File.{tableIn, nodeIn};
 ghost use Rattle.nodes.specs.Unchecked.{opUnchecked};
 ghost use Rattle.reader.specs.Index.{scannedOf, Indexed, Headed};
@@ -269,14 +268,6 @@ pub fn node_at(file: &[u8], at: usize) -> Node
         width: file[at + 4],
         sources,
     }
-}
-
-// Whether it is an output port.
-pub fn output_at(file: &[u8], at: usize) -> bool
-    requires { ⌜ NodeAt (now file) at ⌝ }
-    ensures { λ r. ⌜ r ≡ isOutput (nodeIn (now (file .entry)) at .element) ⌝ }
-{
-    file[at + 3] == 1
 }
 
 // Its width alone.

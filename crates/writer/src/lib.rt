@@ -2,6 +2,7 @@
 // `Puts before at bytes next after` says both, and that no other byte of the output differs.
 use netlist::Element;
 use netlist::Node;
+use nodes::op_index;
 use nodes::source_count;
 use words::Op;
 ghost use mathlib.Core.Path.{_≡_};
@@ -99,20 +100,7 @@ fn kind_of(e: Element) -> u8
 fn op_number(op: Op) -> u8
     ensures { λ r. ⌜ r ≡ opNumber op ⌝ }
 {
-    match op {
-        Op::Constant(_) => 0,
-        Op::Not => 1,
-        Op::And => 2,
-        Op::Or => 3,
-        Op::Xor => 4,
-        Op::Add => 5,
-        Op::Subtract => 6,
-        Op::Equal => 7,
-        Op::Less => 8,
-        Op::Choose => 9,
-        Op::Part(_) => 10,
-        Op::Join => 11,
-    }
+    op_index(op) as u8
 }
 
 // The length of a gate's content.

@@ -1,4 +1,4 @@
--- `node_step` follows the definition; the part handed to `node_of` is the field's content.
+-- `node_step` follows the definition; what is checked is the content of the field.
 use mathlib.Core.Path.{refl, sym, ap, _∙_}
 use Prim.Native.Nat.{ℕ, _+_}
 use lib.ListN.{take, drop}
