@@ -5,6 +5,8 @@ pub mod Entries
 pub mod EntriesLaws
 pub mod Links
 pub mod Registers
+pub mod RegistersPut
+pub mod RegistersRow
 pub mod RegistersLaws
 pub mod Plan
 pub mod PlanLaws

@@ -23,7 +23,7 @@ use Rattle.plan.specs.WiringLaws.{wire-inside}
 use Rattle.plan.specs.Entries.{Stored, Wants, AllPlaced}
 use Rattle.plan.specs.EntriesLaws.{all-wanted}
 use Rattle.plan.specs.Registers.{entryCount, entryAt, wiresBefore, Planning, RegHeld, HeadHeld, Laid, AllLaid}
-use Rattle.plan.specs.RegistersLaws.{regs-in-row, wires-all, reader-stands}
+use Rattle.plan.specs.RegistersRow.{regs-in-row, wires-all, reader-stands}
 use Rattle.plan.specs.Plan.{RegAt, Planned, PlanMade}
 
 -- a reset word is a word of the run

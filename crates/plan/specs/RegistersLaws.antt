@@ -1,210 +1,28 @@
 -- The wires laid one after the other: places and numbers agree. Assumes nothing.
 use mathlib.Core.Path.{_≡_, refl, sym, ap, ap₂, subst, _∙_}
-use mathlib.Core.Logic.{_⊎_, inl, inr, ⊎-elim}
+use mathlib.Core.Logic.{⊎-elim}
 use mathlib.Core.Bool.{Bool, true, false, cond, true≢false}
-use mathlib.Core.List.{List, [], _∷_, _++_, map, append-nil}
-use Prim.Native.Nat.{ℕ, zero, suc, _+_, _-_, _*_, _/_, _%_, _≤_, _<_, zero-le, suc-le-suc}
-use native.Mathlib.Nat.{zero-add, not-suc-le-zero, le-refl, le-of-suc-le-suc}
+use mathlib.Core.List.{List, [], _++_, append-nil}
+use Prim.Native.Nat.{ℕ, zero, suc, _+_, _-_, _*_, _/_, _%_, _≤_, _<_}
+use native.Mathlib.Nat.{le-refl}
 use native.Mathlib.Omega.{arith}
-use lib.ListN.{length, getD, set, length-append, length-map, List·getD-append}
+use lib.ListN.{length, getD, set, length-append, List·getD-append}
 use lib.Seq.{getD-append-add, getD-set-same, getD-set-other}
-use lib.Dec.{eqb, ltb}
+use lib.Dec.{ltb}
 use borrow.Author.Tests.{lt-ltb, ltb-true}
-use Rattle.lists.specs.Lists.{upFrom, below, concatMap, offset, has, find}
-use Rattle.lists.specs.BelowLaws.{true-or-false, lt-or-le, lt-suc-split, eqb-self, getD-map-lt, take-upFrom, upFrom-split, length-listed, getD-listed}
-use Rattle.lists.specs.ListsLaws.{concatMap-append, concatMap-concatMap, concatMap-below-getD, concatMap-cong, getD-concatBelow, offset-below-lt, find-lt, getD-find}
-use Rattle.netlist.specs.declared.Element.{Element}
-use Rattle.netlist.specs.declared.Element.the-variants.{Input, Output, Register, Async, Clocked, Gate}
-use Rattle.netlist.specs.Net.{Net, size, elementAt, source, operands, isRegister, Sourced}
-use Rattle.netlist.specs.NodeLaws.{few-operands}
+use Rattle.lists.specs.Lists.{has}
+use Rattle.lists.specs.BelowLaws.{true-or-false, lt-or-le, lt-suc-split, length-listed, getD-listed}
+use Rattle.netlist.specs.Net.{Net, size, elementAt, source, operands, Sourced}
 use Rattle.behaviour.specs.Run.{zeroWord}
 use Rattle.retiming.specs.Leads.{lead}
-use Rattle.retiming.specs.Rewrite.{Place, Entry, Reg, root, countOn, copyOn, copies, stays, entriesOf, wiresOf, wiresAll, wirePlaces, regsOn, entryPlaces, regPlaces, places, numberOf, along, timing, timingBy}
-use Rattle.retiming.specs.Layout.{noPlace, Stands, Sound, places-sound, stays-if, copy-on, along-reg, along-end}
-use Rattle.retiming.specs.Numbers.{number-of-place}
+use Rattle.retiming.specs.Rewrite.{Place, Entry, Reg, root, countOn, copyOn, copies, stays, regsOn, entryPlaces, numberOf, along, timing, timingBy}
+use Rattle.retiming.specs.Layout.{noPlace, Stands, stays-if, copy-on, along-reg, along-end}
 use Rattle.retiming.specs.Wires.{Rooted, ringless-rooted, root-within}
-use Rattle.plan.specs.Threes.{concat-next, concat-after, concat-longer, inRow, row-of-three, in-threes}
-use Rattle.plan.specs.Wiring.{Ready, countFrom, count-from, wiresTo, sourceOf, wireAt, Copied}
-use Rattle.plan.specs.Entries.{Finds, Stored, Firsts, entriesBefore}
-use Rattle.plan.specs.EntriesLaws.{longer-after, entries-all}
-use Rattle.plan.specs.Registers.{behind, PutsTo, Puts, entryCount, entryAt, wireOf, wiresBefore, Planning, HeadHeld, RegHeld, Laid, AllLaid}
-
--- ---- a wire's registers, one after the other
-
-module _ {s from lead count start : ℕ} {owners late sources : List ℕ} where
-  pub puts-none : PutsTo s from lead count start 0 owners late sources owners late sources
-  puts-none = record {
-    owner = λ t l. absurd (not-suc-le-zero l);
-    clock = λ t l. absurd (not-suc-le-zero l);
-    reads = λ t l. absurd (not-suc-le-zero l);
-    owners-before = λ i l. refl;
-    late-before = λ i l. refl;
-    late-after = λ i l. refl;
-    sources-before = λ i l. refl;
-  }
-
-  module _ {done : ℕ} {owners₁ late₁ sources₁ owners₂ late₂ sources₂ : List ℕ} {r clock before : ℕ} (t : PutsTo s from lead count start done owners late sources owners₁ late₁ sources₁)
-      (a : length owners₁ ≡ 1024) (b : length late₁ ≡ 1024) (d : length sources₁ ≡ 3072) (re : r ≡ start + done) (ce : clock ≡ lead + (count - suc done)) (be : before ≡ behind from start done)
-      (oe : owners₂ ≡ set owners₁ r s) (le : late₂ ≡ set late₁ r clock) (se : sources₂ ≡ set sources₁ (3 * r) before) where
-    owners-same : (i : ℕ) → (i ≡ r → ⊥) → getD owners₂ i 0 ≡ getD owners₁ i 0
-    owners-same i h = ap (λ (l : List ℕ). getD l i 0) oe ∙ getD-set-other owners₁ r i s 0 h
-
-    late-same : (i : ℕ) → (i ≡ r → ⊥) → getD late₂ i 0 ≡ getD late₁ i 0
-    late-same i h = ap (λ (l : List ℕ). getD l i 0) le ∙ getD-set-other late₁ r i clock 0 h
-
-    reads-same : (i : ℕ) → (i ≡ 3 * r → ⊥) → getD sources₂ i 0 ≡ getD sources₁ i 0
-    reads-same i h = ap (λ (l : List ℕ). getD l i 0) se ∙ getD-set-other sources₁ (3 * r) i before 0 h
-
-    pub puts-more : PutsTo s from lead count start (done + 1) owners late sources owners₂ late₂ sources₂
-    puts-more = record {
-      owner = λ k l m. ⊎-elim (λ y. owners-same (start + k) (λ e. omega arith) ∙ t .owner k y m)
-          (λ y. let e : start + k ≡ r = omega arith in ap (λ (i : ℕ). getD owners₂ i 0) e ∙ ap (λ (l : List ℕ). getD l r 0) oe ∙ getD-set-same owners₁ r s 0 (omega arith)) (lt-suc-split (let z : k < suc done = omega arith in z));
-      clock = λ k l m. ⊎-elim (λ y. late-same (start + k) (λ e. omega arith) ∙ t .clock k y m)
-          (λ y. let e : start + k ≡ r = omega arith in ap (λ (i : ℕ). getD late₂ i 0) e ∙ ap (λ (l : List ℕ). getD l r 0) le ∙ getD-set-same late₁ r clock 0 (omega arith) ∙ ce ∙ ap (λ (i : ℕ). lead + (count - suc i)) (sym y)) (lt-suc-split (let z : k < suc done = omega arith in z));
-      reads = λ k l m. ⊎-elim (λ y. reads-same (3 * (start + k)) (λ e. omega arith) ∙ t .reads k y m)
-          (λ y. let e : 3 * (start + k) ≡ 3 * r = omega arith in ap (λ (i : ℕ). getD sources₂ i 0) e ∙ ap (λ (l : List ℕ). getD l (3 * r) 0) se ∙ getD-set-same sources₁ (3 * r) before 0 (omega arith) ∙ be ∙ ap (behind from start) (sym y)) (lt-suc-split (let z : k < suc done = omega arith in z));
-      owners-before = λ i l. owners-same i (λ e. omega arith) ∙ t .owners-before i l;
-      late-before = λ i l. late-same i (λ e. omega arith) ∙ t .late-before i l;
-      late-after = λ i l. late-same i (λ e. omega arith) ∙ t .late-after i (omega arith);
-      sources-before = λ i l. reads-same i (λ e. omega arith) ∙ t .sources-before i l;
-    }
-
-pub behind-next : (from start t : ℕ) → start + t ≡ behind from start (t + 1)
-behind-next from start t = ap (behind from start) (let e : suc t ≡ t + 1 = omega arith in e)
-
-pub behind-last : (from start count : ℕ) → 0 < count → start + count - 1 ≡ behind from start count
-behind-last from start zero h = absurd (not-suc-le-zero h)
-behind-last from start (suc t) h = omega arith
-
--- ---- all registers are those of the entries' wires
-
-module _ (N : Net) where
-  -- of an entry, and nothing of a register
-  abbrev wiresAt : Place → List Place
-  wiresAt (Entry x c) = wiresOf N (timing N) (zeroWord N) (regsOn N (timing N) (zeroWord N)) x c
-  wiresAt (Reg x c p j) = []
-
-  of-copies : (x : ℕ) (d : List ℕ) → concatMap (wiresOf N (timing N) (zeroWord N) (regsOn N (timing N) (zeroWord N)) x) d ≡ concatMap wiresAt (map (Entry x) d)
-  of-copies x [] = refl
-  of-copies x (c ∷ d) = ap (λ (l : List Place). wiresAt (Entry x c) ++ l) (of-copies x d)
-
-  regs-by-entry : regPlaces N (timing N) (zeroWord N) ≡ concatMap wiresAt (entryPlaces N (timing N) (zeroWord N))
-  unfolding regPlaces wirePlaces wiresAll entryPlaces entriesOf
-  regs-by-entry =
-      concatMap-cong (wiresAll N (timing N) (zeroWord N) (regsOn N (timing N) (zeroWord N))) (λ x. concatMap wiresAt (map (Entry x) (copies N (timing N) (zeroWord N) x))) 0 (size N) (λ x h. of-copies x (copies N (timing N) (zeroWord N) x))
-      ∙ sym (concatMap-concatMap wiresAt (entriesOf N (timing N) (zeroWord N)) (below (size N)))
-
-  -- a place's three wires
-  three-wires : (pl : Place) → wiresAt pl ≡ wireOf N pl 0 ++ wireOf N pl 1 ++ wireOf N pl 2
-  unfolding wiresOf
-  three-wires (Entry x c) = row-of-three (operands (elementAt N x)) (regsOn N (timing N) (zeroWord N) x c) (few-operands (elementAt N x))
-  three-wires (Reg x c p j) = refl
-
-  row-at : (i p : ℕ) → p < 3 → wireOf N (entryAt N i) p ≡ wireOf N (entryAt N ((3 * i + p) / 3)) ((3 * i + p) % 3)
-  row-at i p h =
-      let a : i ≡ (3 * i + p) / 3 = omega arith in
-      let b : p ≡ (3 * i + p) % 3 = omega arith in
-      ap₂ (λ (k q : ℕ). wireOf N (entryAt N k) q) a b
-
-  pub regs-in-row : regPlaces N (timing N) (zeroWord N) ≡ wiresBefore N (3 * entryCount N)
-  unfolding wiresBefore
-  regs-in-row =
-      regs-by-entry
-      ∙ sym (concatMap-below-getD (λ i. wiresAt (entryAt N i)) wiresAt (entryPlaces N (timing N) (zeroWord N)) noPlace 0 (λ v h. ap (λ (i : ℕ). wiresAt (entryAt N i)) (zero-add v)))
-      ∙ in-threes (λ i. wiresAt (entryAt N i)) (λ j. wireOf N (entryAt N (j / 3)) (j % 3)) (entryCount N) (λ i h.
-      let z : 3 * i + 0 ≡ 3 * i = omega arith in
-      three-wires (entryAt N i) ∙ ap₂ _++_ (ap₂ _++_ (row-at i 0 (omega arith) ∙ ap (λ (k : ℕ). wireOf N (entryAt N (k / 3)) (k % 3)) z) (row-at i 1 (omega arith))) (row-at i 2 (omega arith)))
-
-  wires-next : (m : ℕ) → wiresBefore N (m + 1) ≡ wiresBefore N m ++ wireOf N (entryAt N (m / 3)) (m % 3)
-  unfolding wiresBefore
-  wires-next m = concat-next (λ j. wireOf N (entryAt N (j / 3)) (j % 3)) m
-
-  -- the first wires' registers come first
-  wires-after : (m k : ℕ) → wiresBefore N (m + k) ≡ wiresBefore N m ++ concatMap (λ j. wireOf N (entryAt N (j / 3)) (j % 3)) (upFrom (0 + m) k)
-  unfolding wiresBefore
-  wires-after m k = concat-after (λ j. wireOf N (entryAt N (j / 3)) (j % 3)) m k
-
-  wires-first : (m b i : ℕ) → m ≤ b → i < length (wiresBefore N m) → (i < length (wiresBefore N b)) × (getD (wiresBefore N b) i noPlace ≡ getD (wiresBefore N m) i noPlace)
-  wires-first m b i h k =
-      let e : m + (b - m) ≡ b = omega arith in
-      let rest : List Place = concatMap (λ j. wireOf N (entryAt N (j / 3)) (j % 3)) (upFrom (0 + m) (b - m)) in
-      let q : wiresBefore N b ≡ wiresBefore N m ++ rest = ap (wiresBefore N) (sym e) ∙ wires-after m (b - m) in
-      (omega (arith, ap length q, length-append (wiresBefore N m) rest), ap (λ (l : List Place). getD l i noPlace) q ∙ List·getD-append (wiresBefore N m) rest noPlace i k)
-
-  -- so a register of the first wires has the number of its place
-  pub reg-number : (m i : ℕ) → m ≤ 3 * entryCount N → i < length (wiresBefore N m) → numberOf N (timing N) (zeroWord N) (getD (wiresBefore N m) i noPlace) ≡ entryCount N + i
-  unfolding places
-  reg-number m i h k =
-      let w = wires-first m (3 * entryCount N) i h k in
-      let e : getD (regPlaces N (timing N) (zeroWord N)) i noPlace ≡ getD (wiresBefore N m) i noPlace = ap (λ (l : List Place). getD l i noPlace) regs-in-row ∙ w .1 in
-      let l : entryCount N + i < length (places N (timing N) (zeroWord N)) = omega (arith, length-append (entryPlaces N (timing N) (zeroWord N)) (regPlaces N (timing N) (zeroWord N)), ap length regs-in-row, w .0) in
-      ap (numberOf N (timing N) (zeroWord N)) (sym (getD-append-add (entryPlaces N (timing N) (zeroWord N)) (regPlaces N (timing N) (zeroWord N)) i noPlace ∙ e))
-      ∙ number-of-place N (timing N) (zeroWord N) (entryCount N + i) l
-
--- ---- an entry is found by its word
-
-find-le : (c : ℕ) (l : List ℕ) (j : ℕ) → j < length l → getD l j 0 ≡ c → find c l ≤ j
-find-le c [] j h e = absurd (not-suc-le-zero h)
-find-le c (x ∷ l) zero h e = rw (subst (λ (y : ℕ). eqb c y ≡ true) (sym e) (eqb-self c)) (le-refl _)
-find-le c (x ∷ l) (suc j) h e = ⊎-elim (λ t. rw t zero-le) (λ t. rw t (suc-le-suc (find-le c l j (le-of-suc-le-suc h) e))) (true-or-false (eqb c x))
-
-wordOf : Place → ℕ
-wordOf (Entry u c) = c
-wordOf (Reg x c p j) = 0
-
-module _ (N : Net) (owners words : List ℕ) (held : Stored owners words (entryPlaces N (timing N) (zeroWord N))) (u : ℕ) (inside : u < size N) where
-  begins : offset (entriesOf N (timing N) (zeroWord N)) (below (size N)) u ≡ length (entriesBefore N u)
-  unfolding entriesBefore
-  begins = ap (λ (l : List ℕ). length (concatMap (entriesOf N (timing N) (zeroWord N)) l)) (take-upFrom 0 (size N) u (omega arith))
-
-  module _ (j : ℕ) (l : j < length (copies N (timing N) (zeroWord N) u)) where
-    in-entries : j < length (entriesOf N (timing N) (zeroWord N) u)
-    unfolding entriesOf
-    in-entries = rw (length-map (copies N (timing N) (zeroWord N) u) (Entry u)) l
-
-    copy-inside : length (entriesBefore N u) + j < entryCount N
-    unfolding entryPlaces
-    copy-inside = omega (arith, begins, offset-below-lt (entriesOf N (timing N) (zeroWord N)) (size N) u j inside in-entries)
-
-    copy-word : getD words (length (entriesBefore N u) + j) 0 ≡ getD (copies N (timing N) (zeroWord N) u) j 0
-    unfolding entryPlaces entriesOf wordOf
-    copy-word =
-        sym (ap wordOf (held (length (entriesBefore N u) + j) copy-inside))
-        ∙ ap (λ (k : ℕ). wordOf (getD (entryPlaces N (timing N) (zeroWord N)) (k + j) noPlace)) (sym begins)
-        ∙ ap wordOf (getD-concatBelow (entriesOf N (timing N) (zeroWord N)) (size N) u j inside in-entries noPlace ∙ getD-map-lt (Entry u) (copies N (timing N) (zeroWord N) u) j 0 noPlace l)
-
-  pub entry-number : {c first r : ℕ} → first ≡ length (entriesBefore N u) → has c (copies N (timing N) (zeroWord N) u) ≡ true → Finds words c first (entryCount N) r → r ≡ numberOf N (timing N) (zeroWord N) (Entry u c)
-  unfolding numberOf
-  entry-number {c} {first} {r} e h f =
-      let q : ℕ = find c (copies N (timing N) (zeroWord N) u) in
-      let lq : q < length (copies N (timing N) (zeroWord N) u) = find-lt c (copies N (timing N) (zeroWord N) u) h in
-      let wq : getD words (length (entriesBefore N u) + q) 0 ≡ c = copy-word q lq ∙ getD-find c (copies N (timing N) (zeroWord N) u) 0 h in
-      let up : r ≤ first + q = ⊎-elim (λ z. absurd (f .passed (length (entriesBefore N u) + q) (omega arith) (omega arith) wq)) (λ z. z) (lt-or-le (first + q) r) in
-      let j : ℕ = r - first in
-      let at : length (entriesBefore N u) + j ≡ r = omega (arith, f .after) in
-      let lj : j < length (copies N (timing N) (zeroWord N) u) = omega (arith, f .after) in
-      let wj : getD (copies N (timing N) (zeroWord N) u) j 0 ≡ c = sym (copy-word j lj) ∙ ap (λ (k : ℕ). getD words k 0) at ∙ f .found (omega (arith, copy-inside q lq)) in
-      omega (arith, begins, f .after, find-le c (copies N (timing N) (zeroWord N) u) j lj wj)
-
-entries-few : (N : Net) (u : ℕ) → u ≤ size N → length (entriesBefore N u) ≤ entryCount N
-entries-few N u h = omega (arith, longer-after N u (size N) h, ap length (entries-all N))
-
--- ---- an entry's reader
-
-module _ (N : Net) (owners words : List ℕ) (held : Stored owners words (entryPlaces N (timing N) (zeroWord N))) (i : ℕ) (h : i < entryCount N) where
-  pub reader-stands : Stands N (timing N) (zeroWord N) (getD owners i 0) (getD words i 0)
-  unfolding places
-  reader-stands =
-      let e : getD (places N (timing N) (zeroWord N)) i noPlace ≡ Entry (getD owners i 0) (getD words i 0) = List·getD-append (entryPlaces N (timing N) (zeroWord N)) (regPlaces N (timing N) (zeroWord N)) noPlace i h ∙ held i h in
-      subst (Sound N (timing N) (zeroWord N)) e (places-sound N (timing N) (zeroWord N) i (omega (arith, length-append (entryPlaces N (timing N) (zeroWord N)) (regPlaces N (timing N) (zeroWord N)))))
-
-pub wires-all : (e : Element) → isRegister e ≡ false → wiresTo e ≡ operands e
-wires-all Input h = refl
-wires-all Output h = refl
-wires-all (Register r) h = absurd (true≢false h)
-wires-all (Async m) h = refl
-wires-all (Clocked m r) h = refl
-wires-all (Gate o) h = refl
+use Rattle.plan.specs.Threes.{concat-longer}
+use Rattle.plan.specs.Wiring.{countFrom, count-from, wiresTo, sourceOf, wireAt}
+use Rattle.plan.specs.Entries.{Finds, Stored, entriesBefore}
+use Rattle.plan.specs.Registers.{behind, Puts, entryCount, entryAt, wireOf, wiresBefore, Planning, HeadHeld, RegHeld, Laid, AllLaid}
+use Rattle.plan.specs.RegistersRow.{wires-next, reg-number, entry-number, entries-few, reader-stands, wires-all}
 
 -- ---- one wire more
 
@@ -439,6 +257,3 @@ module _ (N : Net) {owners words late sources : List ℕ} {m total : ℕ} (d : L
 
   pub laid-all : m ≡ 3 * entryCount N → AllLaid N owners words late sources total
   laid-all e = record { exact = λ o. subst (λ (i : ℕ). Laid N owners words late sources i total) e d; over = λ o. omega (arith, d .count, ap (λ (i : ℕ). length (wiresBefore N i)) e) }
-
-pub puts-as : {s s′ from lead count start done : ℕ} {o l r o′ l′ r′ : List ℕ} → s ≡ s′ → PutsTo s from lead count start done o l r o′ l′ r′ → PutsTo s′ from lead count start done o l r o′ l′ r′
-puts-as {s} {s′} {from} {lead} {count} {start} {done} {o} {l} {r} {o′} {l′} {r′} e t = subst (λ (v : ℕ). PutsTo v from lead count start done o l r o′ l′ r′) e t

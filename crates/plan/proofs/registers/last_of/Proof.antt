@@ -3,7 +3,7 @@ use mathlib.Core.Path.{sym, ap, _∙_}
 use native.Mathlib.Omega.{arith}
 use borrow.Author.Needs.{needs}
 use Rattle.plan.specs.Registers.{behind}
-use Rattle.plan.specs.RegistersLaws.{behind-last}
+use Rattle.plan.specs.RegistersPut.{behind-last}
 use Rattle.plan.proofs.registers.last_of.Statement.{statement}
 use Rattle.plan.proofs.registers.last_of.Tie as tie
 

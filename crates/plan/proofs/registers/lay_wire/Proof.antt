@@ -13,7 +13,8 @@ use Rattle.plan.specs.WiringLaws.{lead-few}
 use Rattle.retiming.specs.Leads.{lead}
 use Rattle.plan.specs.Entries.{Finds}
 use Rattle.plan.specs.Registers.{entryCount}
-use Rattle.plan.specs.RegistersLaws.{reader-here, laid-none, laid-more, puts-as, source-is, source-inside, first-few}
+use Rattle.plan.specs.RegistersPut.{puts-as}
+use Rattle.plan.specs.RegistersLaws.{reader-here, laid-none, laid-more, source-is, source-inside, first-few}
 use Rattle.plan.proofs.registers.lay_wire.Statement.{statement}
 use Rattle.plan.proofs.registers.lay_wire.Tie as tie
 

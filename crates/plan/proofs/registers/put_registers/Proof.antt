@@ -5,7 +5,7 @@ use native.Mathlib.Omega.{arith}
 use lib.ListN.{length}
 use borrow.Author.Needs.{needs}
 use Rattle.plan.specs.Registers.{behind, PutsTo}
-use Rattle.plan.specs.RegistersLaws.{puts-none, puts-more, behind-next}
+use Rattle.plan.specs.RegistersPut.{puts-none, puts-more, behind-next}
 use Rattle.plan.proofs.registers.put_registers.Statement.{statement}
 use Rattle.plan.proofs.registers.put_registers.Tie as tie
 
