@@ -7,6 +7,7 @@ use native.Mathlib.Omega.{arith}
 use lib.ListN.{getD}
 use lib.Dec.{eqb, leb}
 use borrow.Author.Tests.{eq-eqb, ne-eqb}
+use Rattle.lists.specs.BelowLaws.{eqb-self}
 use Rattle.words.specs.declared.Op.{Op}
 use Rattle.words.specs.declared.Op.the-variants.{Constant, Not, And, Or, Xor, Add, Subtract, Equal, Less, Choose, Part, Join}
 use Rattle.netlist.specs.Net.{Table, noTable, Net, elementAt, widthAt, source, isMemory, tableOf}
@@ -16,6 +17,7 @@ use Rattle.netlist.specs.Verdict.{opWidths, widthsRight, badWidth}
 use Rattle.netlist.specs.declared.Element.{Element}
 use Rattle.netlist.specs.declared.Element.the-variants.{Input, Output, Register, Async, Clocked, Gate}
 use Rattle.rules.specs.Three.{three}
+use Rattle.rules.specs.Sides.{sides}
 
 -- the two ways of a conjunction
 pub and-on : (x y : Bool) {z : Bool} → x ≡ true → z ≡ y → z ≡ (x && y)
@@ -54,49 +56,66 @@ unfolding badWidth
 judged N v w a b c o p q s r h =
     ap not (sym h ∙ (λ i. widthsRight (N .tables) (elementAt N v) (o i) (three (p i) (q i) (s i))) ∙ right-three (N .tables) (elementAt N v) (widthAt N v) (λ j. widthAt N (source N v j)))
 
--- ---- the rules by code, but for ROMs and parts, whose rules need more than the widths: there stands true
+-- ---- the rules by code, but for ROMs, parts and joins, whose rules need more than equal widths
 
-abbrev rules : ℕ → ℕ → ℕ → ℕ → List Bool
-rules w a b c =
-    true ∷ eqb a w ∷ eqb a w ∷ true ∷ true ∷ true ∷ eqb a w ∷ (eqb a w && eqb b w) ∷ (eqb a w && eqb b w) ∷ (eqb a w && eqb b w) ∷ (eqb a w && eqb b w) ∷ (eqb a w && eqb b w)
-    ∷ (eqb a b && eqb w 1) ∷ (eqb a b && eqb w 1) ∷ (eqb a 1 && (eqb b w && eqb c w)) ∷ true ∷ eqb (a + b) w ∷ []
-
--- those that are told by the code
-abbrev plain : ℕ → Bool
-plain k = getD (true ∷ true ∷ true ∷ false ∷ false ∷ true ∷ true ∷ true ∷ true ∷ true ∷ true ∷ true ∷ true ∷ true ∷ true ∷ false ∷ true ∷ []) k false
+and-true : (x : Bool) → (x && true) ≡ x
+and-true true = refl
+and-true false = refl
 
 module _ (ts : List Table) (w a b c : ℕ) where
-  of-op : (o : Op) → plain (5 + opNumber o) ≡ true → getD (rules w a b c) (5 + opNumber o) true ≡ opWidths o w (three a b c)
-  of-op (Constant v) h = refl
-  of-op Not h = refl
-  of-op And h = refl
-  of-op Or h = refl
-  of-op Xor h = refl
-  of-op Add h = refl
-  of-op Subtract h = refl
-  of-op Equal h = refl
-  of-op Less h = refl
-  of-op Choose h = refl
-  of-op (Part l) h = absurd (false≢true h)
-  of-op Join h = refl
+  one-side : {x : Bool} → (x && (eqb w w && eqb w w)) ≡ x
+  one-side {x} = rw (eqb-self w) (and-true x)
 
-  by-code : (e : Element) → plain (codeOf e) ≡ true → getD (rules w a b c) (codeOf e) true ≡ widthsRight ts e w (three a b c)
-  by-code Input h = refl
-  by-code Output h = refl
-  by-code (Register r) h = refl
-  by-code (Async m) h = absurd (false≢true h)
-  by-code (Clocked m r) h = absurd (false≢true h)
-  by-code (Gate o) h = of-op o h
+  two-sides : (x y : Bool) → (x && (y && eqb w w)) ≡ (x && y)
+  two-sides x y = rw (eqb-self w, and-true y)
 
-  -- the rule of code k
-  pub ruled : (e : Element) (k n : ℕ) → n ≡ codeOf e → n ≡ k → plain k ≡ true → {z : Bool} → z ≡ getD (rules w a b c) k true → z ≡ widthsRight ts e w (three a b c)
-  ruled e k n p q h g =
-      let d : k ≡ codeOf e = sym q ∙ p in
-      g ∙ ap (λ (j : ℕ). getD (rules w a b c) j true) d ∙ by-code e (sym (ap plain d) ∙ h)
+  of-op : (o : Op) → (codeOf (Gate o) ≡ 15 → ⊥) → (codeOf (Gate o) ≡ 16 → ⊥) → sides (5 + opNumber o) w a b c ≡ opWidths o w (three a b c)
+  of-op (Constant v) g l = rw (eqb-self w)
+  of-op Not g l = one-side
+  of-op And g l = two-sides (eqb a w) (eqb b w)
+  of-op Or g l = two-sides (eqb a w) (eqb b w)
+  of-op Xor g l = two-sides (eqb a w) (eqb b w)
+  of-op Add g l = two-sides (eqb a w) (eqb b w)
+  of-op Subtract g l = two-sides (eqb a w) (eqb b w)
+  of-op Equal g l = two-sides (eqb a b) (eqb w 1)
+  of-op Less g l = two-sides (eqb a b) (eqb w 1)
+  of-op Choose g l = refl
+  of-op (Part o) g l = absurd (g refl)
+  of-op Join g l = absurd (l refl)
 
--- a code that is at least n and not n
-pub past : {k n : ℕ} → n ≤ k → (k ≡ n → ⊥) → n + 1 ≤ k
-past l d = omega arith
+  by-code : (e : Element) → (codeOf e ≡ 3 → ⊥) → (codeOf e ≡ 4 → ⊥) → (codeOf e ≡ 15 → ⊥) → (codeOf e ≡ 16 → ⊥) → sides (codeOf e) w a b c ≡ widthsRight ts e w (three a b c)
+  by-code Input d f g l = rw (eqb-self w)
+  by-code Output d f g l = one-side
+  by-code (Register r) d f g l = one-side
+  by-code (Async m) d f g l = absurd (d refl)
+  by-code (Clocked m r) d f g l = absurd (f refl)
+  by-code (Gate o) d f g l = of-op o g l
+
+  pub sided-rule : (e : Element) {n : ℕ} → n ≡ codeOf e → (n ≡ 3 → ⊥) → (n ≡ 4 → ⊥) → (n ≡ 15 → ⊥) → (n ≡ 16 → ⊥) → {z : Bool} → z ≡ sides n w a b c → z ≡ widthsRight ts e w (three a b c)
+  sided-rule e {n} p d f g l q = q ∙ ap (λ (k : ℕ). sides k w a b c) p ∙ by-code e (λ x. d (p ∙ x)) (λ x. f (p ∙ x)) (λ x. g (p ∙ x)) (λ x. l (p ∙ x))
+
+-- a join
+join-op : (o : Op) → 16 ≡ 5 + opNumber o → (w a b c : ℕ) → eqb (a + b) w ≡ opWidths o w (three a b c)
+join-op Join q w a b c = refl
+join-op (Constant v) q w a b c = absurd (omega arith)
+join-op Not q w a b c = absurd (omega arith)
+join-op And q w a b c = absurd (omega arith)
+join-op Or q w a b c = absurd (omega arith)
+join-op Xor q w a b c = absurd (omega arith)
+join-op Add q w a b c = absurd (omega arith)
+join-op Subtract q w a b c = absurd (omega arith)
+join-op Equal q w a b c = absurd (omega arith)
+join-op Less q w a b c = absurd (omega arith)
+join-op Choose q w a b c = absurd (omega arith)
+join-op (Part l) q w a b c = absurd (omega arith)
+
+pub join-rule : (ts : List Table) (w a b c : ℕ) (e : Element) → 16 ≡ codeOf e → {z : Bool} → z ≡ eqb (a + b) w → z ≡ widthsRight ts e w (three a b c)
+join-rule ts w a b c Input q r = absurd (omega arith)
+join-rule ts w a b c Output q r = absurd (omega arith)
+join-rule ts w a b c (Register s) q r = absurd (omega arith)
+join-rule ts w a b c (Async m) q r = absurd (omega arith)
+join-rule ts w a b c (Clocked m s) q r = absurd (omega arith)
+join-rule ts w a b c (Gate o) q r = r ∙ join-op o q w a b c
 
 -- ---- a ROM, by its table
 

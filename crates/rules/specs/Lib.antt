@@ -1,2 +1,3 @@
 pub mod Three
 pub mod Marks
+pub mod Sides

@@ -4,9 +4,9 @@ use index::address_bits;
 use index::wide;
 use index::word_width;
 ghost use mathlib.Core.Path.{_≡_};
-ghost use mathlib.Core.Bool.{true, _&&_};
+ghost use mathlib.Core.Bool.{true, cond};
 ghost use lib.Dec.{eqb};
-ghost use Prim.Native.Nat.{ℕ, _<_};
+ghost use Prim.Native.Nat.{ℕ, _/_, _%_, _^_, _<_};
 ghost use lib.ListN.{length};
 ghost use Rattle.lists.specs.Lists.{lowest};
 ghost use Rattle.netlist.specs.Net.{elementAt, widthAt, isMemory};
@@ -16,26 +16,40 @@ ghost use Rattle.netlist.specs.Verdict.{widthsRight, badWidth};
 ghost use Rattle.netlist.specs.ScanLaws.{Found};
 ghost use Rattle.netlist.specs.File.{netIn};
 ghost use Rattle.rules.specs.Three.{three};
+ghost use Rattle.rules.specs.Sides.{sides};
 
-// Whether two widths are both w.
-fn both_are(w: u8, a: u8, b: u8) -> bool
-    ensures { λ r. ⌜ r ≡ (eqb a w && eqb b w) ⌝ }
+// The codes whose first source's width counts, and whose second's; those that compare, and the one that chooses: a bit for each.
+const FIRST_COUNTS: u64 = 32710;
+
+const SECOND_COUNTS: u64 = 20352;
+
+const COMPARING: u64 = 12288;
+
+const CHOOSING: u64 = 16384;
+
+// One width where a code's bit is set, another where it is not.
+fn pick(bits: u64, code: usize, x: u8, y: u8) -> u8
+    requires { ⌜ code < 17 ⌝ }
+    ensures { λ r. ⌜ r ≡ cond (eqb (bits / 2 ^ code % 2) 1) x y ⌝ }
 {
-    if a == w { b == w } else { false }
+    if (bits >> code) % 2 == 1 { x } else { y }
 }
 
-// Whether a comparison's widths are equal and its own is 1.
-fn compares(w: u8, a: u8, b: u8) -> bool
-    ensures { λ r. ⌜ r ≡ (eqb a b && eqb w 1) ⌝ }
+// The width rule of a code as three equalities. Codes follow no pattern, so there is no branch on them: what does not count is the node's own width.
+fn same_widths(code: usize, w: u8, a: u8, b: u8, c: u8) -> bool
+    requires { ⌜ code < 17 ⌝ }
+    ensures { λ r. ⌜ r ≡ sides code w a b c ⌝ }
 {
-    if a == b { w == 1 } else { false }
-}
-
-// Whether a choice has a selector of one bit and two sources of its width.
-fn chooses(w: u8, a: u8, b: u8, c: u8) -> bool
-    ensures { λ r. ⌜ r ≡ (eqb a 1 && (eqb b w && eqb c w)) ⌝ }
-{
-    if a == 1 { both_are(w, b, c) } else { false }
+    let first = pick(FIRST_COUNTS, code, a, w);
+    let wanted = pick(CHOOSING, code, 1, pick(COMPARING, code, b, w));
+    let second = pick(SECOND_COUNTS, code, b, w);
+    let own = pick(COMPARING, code, 1, w);
+    let third = pick(CHOOSING, code, c, w);
+    if first == wanted {
+        if second == own { third == w } else { false }
+    } else {
+        false
+    }
 }
 
 // The width rule of node v, a ROM of width w whose source has width a.
@@ -85,24 +99,12 @@ fn width_rule(
     ensures { λ r. ⌜ r ≡ widthsRight (netIn (now (file .entry)) (now (tables .entry)) (now (nodes .entry)) .tables) (elementAt (netIn (now (file .entry)) (now (tables .entry)) (now (nodes .entry))) v) w (three a b c) ⌝ }
 {
     match code {
-        0 => true,
-        1 => a == w,
-        2 => a == w,
         3 => memory_widths(file, tables, nodes, v, w, a),
         4 => memory_widths(file, tables, nodes, v, w, a),
-        5 => true,
-        6 => a == w,
-        7 => both_are(w, a, b),
-        8 => both_are(w, a, b),
-        9 => both_are(w, a, b),
-        10 => both_are(w, a, b),
-        11 => both_are(w, a, b),
-        12 => compares(w, a, b),
-        13 => compares(w, a, b),
-        14 => chooses(w, a, b, c),
         15 => part_widths(file, tables, nodes, v, w, a),
         // A join.
-        _ => (a as u32) + (b as u32) == (w as u32),
+        16 => (a as u32) + (b as u32) == (w as u32),
+        _ => same_widths(code as usize, w, a, b, c),
     }
 }
 
