@@ -32,6 +32,14 @@ fn fault(code: usize, rank: u16, read: u16) -> usize
     (is_kind(code, 2) + at_most(rank, read)) / 2
 }
 
+// 1 where both are.
+fn both(x: usize, y: usize) -> usize
+    requires { ⌜ (x ≤ 1) × (y ≤ 1) ⌝ }
+    ensures { λ r. ⌜ r ≤ x ⌝ }
+{
+    (x + y) / 2
+}
+
 // Registers of which each reads the next: how many, and the rank of what the last one reads.
 pub struct Chain {
     pub length: usize,
@@ -77,18 +85,47 @@ fn rank_chain(sources: &[u16], start: usize, chain: Chain, ranks: &mut [u16])
     }
 }
 
+// Ranks 1 the registers among the first n nodes that read no register, and lists those that do. Both stand among the others in no order, so there is
+// no branch on them: each node is put on the list, and the next one over it unless it stays.
+fn list_chained(
+    codes: &[u8],
+    sources: &[u16],
+    n: usize,
+    ranks: &mut [u16],
+    list: &mut [u16],
+) -> usize
+    requires { ⌜ n ≤ 1024 ⌝ }
+    ensures { λ r. ⌜ r ≤ 1024 ⌝ }
+{
+    let mut count: usize = 0;
+    let mut v: usize = 0;
+    while v < n {
+        let register = is_kind(code_of(codes, v), 2);
+        let read = is_kind(code_of(codes, wide(number_at(sources, 3 * v))), 2);
+        let chained = both(register, read);
+        put_number(ranks, v, (register - chained) as u16);
+        put_number(list, count, v as u16);
+        count = count + chained;
+        v = v + 1;
+    }
+    count
+}
+
 // Ranks all registers among the first n nodes.
 fn rank_registers(codes: &[u8], sources: &[u16], n: usize, ranks: &mut [u16])
     requires { ⌜ n ≤ 1024 ⌝ }
 {
-    let mut v: usize = 0;
-    while v < n {
-        // Most nodes are no registers, or have a rank from a chain before.
-        if fault(code_of(codes, v), number_at(ranks, v), 0) == 1 {
+    let mut list = [0u16; 1024];
+    let count = list_chained(codes, sources, n, ranks, &mut list);
+    let mut i: usize = 0;
+    while i < count {
+        let v = wide(number_at(&list, i));
+        // It may have a rank from a chain before.
+        if number_at(ranks, v) == 0 {
             let chain = mark_chain(codes, sources, v, ranks);
             rank_chain(sources, v, chain, ranks);
         }
-        v = v + 1;
+        i = i + 1;
     }
 }
 

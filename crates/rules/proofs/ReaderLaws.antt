@@ -1,5 +1,5 @@
 -- Check 8, over plain values. Assumes nothing.
-use mathlib.Core.Path.{_≡_, refl, sym, ap, _∙_}
+use mathlib.Core.Path.{_≡_, refl, sym, ap, subst, _∙_}
 use mathlib.Core.Logic.{⊎-elim}
 use mathlib.Core.Bool.{Bool, true, false, not, cond, _||_, _&&_}
 use mathlib.Core.List.{List}
@@ -12,7 +12,7 @@ use lib.Seq.{getD-set-same, getD-set-other}
 use lib.Dec.{eqb, ltb}
 use borrow.Author.Tests.{lt-ltb}
 use Rattle.lists.specs.Lists.{anyBelow, one}
-use Rattle.lists.specs.BelowLaws.{true-or-false, eqb-true, eqb-differ}
+use Rattle.lists.specs.BelowLaws.{true-or-false, lt-or-le, eqb-true, eqb-differ, anyBelow-intro}
 use Rattle.netlist.specs.Net.{Net, size, elementAt, source, operands, isInput, isOutput}
 use Rattle.netlist.specs.Reach.{readsTest}
 use Rattle.netlist.specs.Verdict.{unread}
@@ -21,6 +21,7 @@ use Rattle.netlist.specs.declared.Element.the-variants.{Input, Output, Register
 use Rattle.netlist.specs.NodeField.{opNumber}
 use Rattle.nodes.specs.Code.{codeOf}
 use Rattle.columns.specs.Columns.{Columns, source-is, any-same}
+use Rattle.rules.specs.OrFirst.{OrFirst}
 use Rattle.rules.specs.Marks.{Marks, Marked}
 
 pub marked-none : (sources : ℕ → ℕ) (l : List ℕ) → Marked sources 0 l l
@@ -45,6 +46,41 @@ marked-more {sources} {before} {after} {p} m = record {
         (λ t. ap (λ (k : ℕ). getD (set after k 1) u 0) (eqb-true t) ∙ getD-set-same after u 1 0 (omega (arith, m .kept)) ∙ chosen _ (anyBelow p (λ i. eqb (sources i) u)) (getD before u 0) t)
         (λ t. getD-set-other after (sources p) u 1 0 (λ e. eqb-differ t (sym e)) ∙ m .each u h ∙ passed _ (anyBelow p (λ i. eqb (sources i) u)) (getD before u 0) t)
         (true-or-false (eqb (sources p) u))
+
+-- a source marked again
+marked-again : {sources : ℕ → ℕ} {before after : List ℕ} {p : ℕ} → Marked sources p before after → (j : ℕ) → j < p → Marked sources p before (set after (sources j) 1)
+marked-again {sources} {before} {after} {p} m j l = record {
+  kept = length-set after (sources j) 1 ∙ m .kept;
+  each = λ u h.
+      ⊎-elim
+      (λ t. ap (λ (k : ℕ). getD (set after k 1) u 0) (eqb-true t) ∙ getD-set-same after u 1 0 (omega (arith, m .kept)) ∙ ap (λ (b : Bool). cond b 1 (getD before u 0)) (sym (anyBelow-intro p (λ i. eqb (sources i) u) j l t)))
+      (λ t. getD-set-other after (sources j) u 1 0 (λ e. eqb-differ t (sym e)) ∙ m .each u h)
+      (true-or-false (eqb (sources j) u));
+}
+
+-- three marks, the first again where there are fewer sources
+module _ (sources : ℕ → ℕ) (before : List ℕ) {n second third : ℕ} (a : OrFirst 1 n second) (b : OrFirst 2 n third) (some : 0 < n) (few : n ≤ 3) where
+  three-at : Marked sources n before (set (set (set before (sources 0) 1) (sources second) 1) (sources third) 1)
+  three-at =
+      ⊎-elim
+      (λ l. ⊎-elim
+      (λ h. moved 3 1 2 (omega arith) (a .here l) (b .here h) (marked-more (marked-more once)))
+      (λ h. moved 2 1 0 (omega arith) (a .here l) (b .first h) (marked-again (marked-more once) 0 (omega arith)))
+      (lt-or-le 2 n))
+      (λ l. moved 1 0 0 (omega arith) (a .first l) (b .first (omega arith)) (marked-again (marked-again once 0 (omega arith)) 0 (omega arith)))
+      (lt-or-le 1 n)
+    where
+      once : Marked sources 1 before (set before (sources 0) 1)
+      once = marked-more (marked-none sources before)
+
+      moved : (k p q : ℕ) → n ≡ k → second ≡ p → third ≡ q → Marked sources k before (set (set (set before (sources 0) 1) (sources p) 1) (sources q) 1)
+          → Marked sources n before (set (set (set before (sources 0) 1) (sources second) 1) (sources third) 1)
+      moved k p q e f g m = rw e (rw f (rw g m))
+
+  pub marked-three : {x y z : List ℕ} {i j k : ℕ} → x ≡ set before i 1 → i ≡ sources 0 → y ≡ set x j 1 → j ≡ sources second → z ≡ set y k 1 → k ≡ sources third → Marked sources n before z
+  marked-three {x} {y} {z} {i} {j} {k} e f g h u v =
+      let told : z ≡ set (set (set before (sources 0) 1) (sources second) 1) (sources third) 1 = cc in
+      subst (λ (l : List ℕ). Marked sources n before l) (sym told) three-at
 
 one-of : (q a : Bool) → cond q 1 (one a) ≡ one (q || a)
 one-of true a = refl

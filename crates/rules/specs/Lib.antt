@@ -1,3 +1,4 @@
 pub mod Three
 pub mod Marks
 pub mod Sides
+pub mod OrFirst

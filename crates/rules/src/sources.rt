@@ -11,6 +11,7 @@ ghost use Rattle.columns.specs.Columns.{Columns};
 ghost use Rattle.netlist.specs.Verdict.{tableThere, noSource, badSource};
 ghost use Rattle.netlist.specs.ScanLaws.{Found};
 ghost use Rattle.netlist.specs.File.{netIn};
+ghost use Rattle.rules.specs.OrFirst.{OrFirst};
 
 // The number of a ROM's table, which stands in the file.
 pub fn table_of(file: &[u8], tables: &[u16], nodes: &[u16], v: usize) -> usize
@@ -62,6 +63,13 @@ fn no_source(
     if u < nodes.len() { codes[u] == 1 } else { true }
 }
 
+// Source i of n, or the first where there are not so many. How many a node has follows no pattern: to look at the first again is cheaper than a branch.
+pub fn or_first(i: usize, n: usize) -> usize
+    ensures { λ r. ⌜ OrFirst i n r × (r ≤ i) ⌝ }
+{
+    if i < n { i } else { 0 }
+}
+
 // Whether one of the n sources from a place on is no source.
 fn any_no_source(
     file: &[u8],
@@ -72,17 +80,21 @@ fn any_no_source(
     codes: &[u8],
     sources: &[u16],
 ) -> bool
-    requires { ⌜ Found (now file) (now tables) (now nodes) × (from + n ≤ length (now sources)) × Columns (netIn (now file) (now tables) (now nodes)) (now codes) (now sources) (length (now nodes)) ⌝ }
+    requires { ⌜ Found (now file) (now tables) (now nodes) × (n ≤ 3) × (from + 3 ≤ length (now sources)) × Columns (netIn (now file) (now tables) (now nodes)) (now codes) (now sources) (length (now nodes)) ⌝ }
     ensures { λ r. ⌜ r ≡ anyBelow n (λ p. noSource (netIn (now (file .entry)) (now (tables .entry)) (now (nodes .entry))) (getD (now (sources .entry)) (from + p) 0)) ⌝ }
 {
-    let mut p: usize = 0;
-    while p < n {
-        if no_source(file, tables, nodes, wide(sources[from + p]), codes, sources) {
-            return true;
-        }
-        p = p + 1;
+    if n == 0 {
+        return false;
     }
-    false
+    if no_source(file, tables, nodes, wide(sources[from]), codes, sources) {
+        return true;
+    }
+    let second = from + or_first(1, n);
+    if no_source(file, tables, nodes, wide(sources[second]), codes, sources) {
+        return true;
+    }
+    let third = from + or_first(2, n);
+    no_source(file, tables, nodes, wide(sources[third]), codes, sources)
 }
 
 // How many sources node v has.

@@ -1,72 +1,97 @@
--- The loop's invariant: the sources passed are marked.
+-- By the law of three marks over plain values.
 use mathlib.Core.Path.{_≡_, sym, ap, subst, _∙_}
-use mathlib.Core.List.{List}
-use Prim.Native.Nat.{ℕ, _+_, _-_, _≤_}
+use Prim.Native.Nat.{ℕ, _+_}
 use native.Mathlib.Omega.{arith}
-use lib.ListN.{getD, set}
+use lib.ListN.{getD}
 use borrow.Author.Needs.{needs}
-use Rattle.rules.proofs.ReaderLaws.{marked-none, marked-more}
+use Rattle.rules.proofs.ReaderLaws.{marked-none, marked-three}
 use Rattle.rules.specs.Marks.{Marked}
 use Rattle.rules.proofs.readers.mark_sources.Statement.{statement}
 use Rattle.rules.proofs.readers.mark_sources.Tie as tie
 
-abbrev Inv-loop : tie.InvT-loop
-Inv-loop sources from n marks₀ p₀ marks p = (p ≤ n) × Marked (λ i. getD sources (from + i) 0) p marks₀ marks
+returns : tie.Need-returns
+returns c =
+    let a = c .before .before .before .args in
+    subst (λ (k : ℕ). Marked (λ p. getD (a .sources .now) (a .from + p) 0) k (a .marks .now) (a .marks .now)) (sym (c .if1 .taken)) (marked-none _ _)
 
-abbrev μ-loop : tie.MeasureT-loop
-μ-loop sources from n marks₀ p₀ marks p = n - p
+or-first-requires : tie.Need-or-first-requires
+or-first-requires c κs = search needs
 
-loop-holds : tie.Need-loop-holds Inv-loop μ-loop
-loop-holds c = (omega arith, marked-none _ _)
+add-second : tie.Need-add-second
+add-second c = search needs
 
-add-wide : tie.Need-add-wide Inv-loop μ-loop
-add-wide c = omega (arith, c .before .before .before .before .before .pre)
+or-first-requires-2 : tie.Need-or-first-requires-2
+or-first-requires-2 c κs = search needs
 
-mul-wide : tie.Need-mul-wide Inv-loop μ-loop
-mul-wide c = omega (arith, c .before .before .before .before .before .pre)
+add-third : tie.Need-add-third
+add-third c = search needs
 
-shared-slice-read-wide : tie.Need-shared-slice-read-wide Inv-loop μ-loop
-shared-slice-read-wide c = omega (arith, c .before .before .before .before .before .before .pre)
+mul-wide : tie.Need-mul-wide
+mul-wide c = search needs
 
-wide-requires : tie.Need-wide-requires Inv-loop μ-loop
+shared-slice-read-wide : tie.Need-shared-slice-read-wide
+shared-slice-read-wide c = search needs
+
+wide-requires : tie.Need-wide-requires
 wide-requires c κs = search needs
 
-put-flag-requires : tie.Need-put-flag-requires Inv-loop μ-loop
+put-flag-requires : tie.Need-put-flag-requires
 put-flag-requires c κs = search needs
 
-add-p : tie.Need-add-p Inv-loop μ-loop
-add-p c = omega arith
+mul-wide-2 : tie.Need-mul-wide-2
+mul-wide-2 c = search needs
 
-loop-less : tie.Need-loop-less Inv-loop μ-loop
-loop-less c = omega arith
+shared-slice-read-wide-2 : tie.Need-shared-slice-read-wide-2
+shared-slice-read-wide-2 c = search needs
 
-loop-again : tie.Need-loop-again Inv-loop μ-loop
-loop-again c =
-    let e = c .before .before .put-flag .ensures ∙ ap (λ (k : ℕ). set (c .before .before .before .before .before .before .before .loop .marks) k 1) (c .before .before .before .wide .ensures .0) in
-    (omega arith, subst (λ (l : List ℕ). Marked (λ i. getD (c .before .before .before .before .before .before .before .before .before .before .args .sources .now) (c .before .before .before .before .before .before .before .before .before .before .args .from + i) 0) (c .before .before .before .before .before .before .before .loop .p + 1) (c .before .before .before .before .before .before .before .before .before .before .args .marks .now) l) (sym e) (marked-more (c .before .before .before .before .before .before .before .loop .inv .1)))
+wide-requires-2 : tie.Need-wide-requires-2
+wide-requires-2 c κs = search needs
 
-same-length : tie.Need-same-length Inv-loop μ-loop
-same-length c = c .before .loop .inv .1 .kept
+put-flag-requires-2 : tie.Need-put-flag-requires-2
+put-flag-requires-2 c κs = search needs
 
-returns : tie.Need-returns Inv-loop μ-loop
-returns c =
-    let e : c .before .loop .p ≡ c .before .before .before .before .args .n = omega arith in
-    subst (λ (k : ℕ). Marked (λ i. getD (c .before .before .before .before .args .sources .now) (c .before .before .before .before .args .from + i) 0) k (c .before .before .before .before .args .marks .now) (c .before .loop .marks)) e (c .before .loop .inv .1)
+mul-wide-3 : tie.Need-mul-wide-3
+mul-wide-3 c = search needs
+
+shared-slice-read-wide-3 : tie.Need-shared-slice-read-wide-3
+shared-slice-read-wide-3 c = search needs
+
+wide-requires-3 : tie.Need-wide-requires-3
+wide-requires-3 c κs = search needs
+
+put-flag-requires-3 : tie.Need-put-flag-requires-3
+put-flag-requires-3 c κs = search needs
+
+same-length : tie.Need-same-length
+same-length c = search needs
+
+returns-2 : tie.Need-returns-2
+returns-2 c =
+    let a = c .before .before .before .before .before .before .before .before .before .before .before .before .before .before .before .before .before .before .before .before .before .before .before .args in
+    let start : a .from ≡ a .from + 0 = omega arith in
+    marked-three (λ p. getD (a .sources .now) (a .from + p) 0) (a .marks .now) (c .before .before .before .before .before .before .before .before .before .before .before .before .before .before .before .before .before .before .before .or-first .ensures .0) (c .before .before .before .before .before .before .before .before .before .before .before .before .before .before .before .before .before .before .or-first2 .ensures .0) (omega (arith, c .before .before .before .before .before .before .before .before .before .before .before .before .before .before .before .before .before .before .before .before .if1 .left)) (c .before .before .before .before .before .before .before .before .before .before .before .before .before .before .before .before .before .before .before .before .before .before .before .pre .0)
+    (c .before .before .before .before .before .before .before .before .before .before .before .before .before .before .put-flag .ensures) (c .before .before .before .before .before .before .before .before .before .before .before .before .before .before .before .wide .ensures .0 ∙ ap (λ (k : ℕ). getD (a .sources .now) k 0) start) (c .before .before .before .before .before .before .before .before .put-flag2 .ensures) (c .before .before .before .before .before .before .before .before .before .wide2 .ensures .0) (c .before .before .put-flag3 .ensures) (c .before .before .before .wide3 .ensures .0)
 
 pub mark-sources-spec : {M : Type 1} → statement M
 mark-sources-spec =
     tie.close
     (tie.spec
-    Inv-loop
-    μ-loop
-    loop-holds
-    add-wide
+    returns
+    or-first-requires
+    add-second
+    or-first-requires-2
+    add-third
     mul-wide
     shared-slice-read-wide
     wide-requires
     put-flag-requires
-    add-p
-    loop-less
-    loop-again
+    mul-wide-2
+    shared-slice-read-wide-2
+    wide-requires-2
+    put-flag-requires-2
+    mul-wide-3
+    shared-slice-read-wide-3
+    wide-requires-3
+    put-flag-requires-3
     same-length
-    returns)
+    returns-2)

@@ -1,82 +1,120 @@
--- The loop's invariant: no source passed is bad.
-use mathlib.Core.Path.{sym, ap, _∙_}
+-- The first source that is bad is one of them, and where no look finds one there is none.
+use mathlib.Core.Path.{_≡_, sym, ap, _∙_}
+use mathlib.Core.Logic.{⊎-elim}
 use mathlib.Core.Bool.{Bool}
-use Prim.Native.Nat.{ℕ, _+_, _-_}
+use Prim.Native.Nat.{ℕ, _+_}
 use native.Mathlib.Omega.{arith}
 use lib.ListN.{getD}
 use borrow.Author.Needs.{needs}
-use Rattle.lists.specs.BelowLaws.{anyBelow-intro}
-use Rattle.lists.specs.SearchLaws.{Passed, passed-more, any-passed}
+use Rattle.lists.specs.BelowLaws.{true-or-false, anyBelow-intro}
+use Rattle.lists.specs.SearchLaws.{any-passed}
 use Rattle.netlist.specs.Verdict.{noSource}
 use Rattle.netlist.specs.File.{netIn}
+use Rattle.rules.specs.OrFirst.{below, all-looked}
 use Rattle.rules.proofs.sources.any_no_source.Statement.{statement}
 use Rattle.rules.proofs.sources.any_no_source.Tie as tie
 
-abbrev Inv-loop : tie.InvT-loop
-Inv-loop file tables nodes from n codes sources p₀ p = Passed (λ i. noSource (netIn file tables nodes) (getD sources (from + i) 0)) p
+returns : tie.Need-returns
+returns c = search needs
 
-abbrev μ-loop : tie.MeasureT-loop
-μ-loop file tables nodes from n codes sources p₀ p = n - p
+mul-wide : tie.Need-mul-wide
+mul-wide c = search needs
 
-loop-holds : tie.Need-loop-holds Inv-loop μ-loop
-loop-holds c = λ p h. absurd (omega arith)
+shared-slice-read-wide : tie.Need-shared-slice-read-wide
+shared-slice-read-wide c = search needs
 
-add-wide : tie.Need-add-wide Inv-loop μ-loop
-add-wide c = omega (arith, c .before .before .before .before .before .before .before .pre .1)
-
-mul-wide : tie.Need-mul-wide Inv-loop μ-loop
-mul-wide c = omega (arith, c .before .before .before .before .before .before .before .pre .1)
-
-shared-slice-read-wide : tie.Need-shared-slice-read-wide Inv-loop μ-loop
-shared-slice-read-wide c = omega (arith, c .before .before .before .before .before .before .before .before .pre .1)
-
-wide-requires : tie.Need-wide-requires Inv-loop μ-loop
+wide-requires : tie.Need-wide-requires
 wide-requires c κs = search needs
 
-no-source-requires : tie.Need-no-source-requires Inv-loop μ-loop
-no-source-requires c κs = (c .before .before .before .before .before .before .before .before .before .pre .0, c .before .before .before .before .before .before .before .before .before .pre .2)
+no-source-requires : tie.Need-no-source-requires
+no-source-requires c κs = search needs
 
-returns : tie.Need-returns Inv-loop μ-loop
-returns c =
-    let a = c .before .before .before .before .before .before .before .before .before .before .before .args in
-    let N = netIn (a .file .now) (a .tables .now) (a .nodes .now) in
-    let q : ℕ → Bool = λ p. noSource N (getD (a .sources .now) (a .from + p) 0) in
-    sym (anyBelow-intro (a .n) q (c .before .before .before .before .before .loop .p) (c .before .before .before .before .loop-test .taken) (ap (noSource N) (sym (c .before .before .wide .ensures .0)) ∙ sym (c .before .no-source .ensures) ∙ c .if1 .taken))
-
-add-p : tie.Need-add-p Inv-loop μ-loop
-add-p c = omega arith
-
-loop-less : tie.Need-loop-less Inv-loop μ-loop
-loop-less c = omega arith
-
-loop-again : tie.Need-loop-again Inv-loop μ-loop
-loop-again c =
-    let a = c .before .before .before .before .before .before .before .before .before .before .before .args in
-    let N = netIn (a .file .now) (a .tables .now) (a .nodes .now) in
-    let q : ℕ → Bool = λ p. noSource N (getD (a .sources .now) (a .from + p) 0) in
-    passed-more q (c .before .before .before .before .before .loop .p) (c .before .before .before .before .before .loop .inv) (ap (noSource N) (sym (c .before .before .wide .ensures .0)) ∙ sym (c .before .no-source .ensures) ∙ c .if1 .left)
-
-returns-2 : tie.Need-returns-2 Inv-loop μ-loop
+returns-2 : tie.Need-returns-2
 returns-2 c =
-    let a = c .before .before .before .before .before .before .before .args in
+    let a = c .before .before .before .before .before .before .before .before .before .before .args in
+    let N = netIn (a .file .now) (a .tables .now) (a .nodes .now) in
+    let start : a .from ≡ a .from + 0 = omega arith in
+    let q : ℕ → Bool = λ p. noSource N (getD (a .sources .now) (a .from + p) 0) in
+    sym (anyBelow-intro (a .n) q 0 (omega (arith, c .before .before .before .before .if1 .left)) (ap (noSource N) (sym (c .before .before .wide .ensures .0 ∙ ap (λ (k : ℕ). getD (a .sources .now) k 0) start)) ∙ sym (c .before .no-source .ensures) ∙ c .if2 .taken))
+
+or-first-requires : tie.Need-or-first-requires
+or-first-requires c κs = search needs
+
+add-second : tie.Need-add-second
+add-second c = search needs
+
+mul-wide-2 : tie.Need-mul-wide-2
+mul-wide-2 c = search needs
+
+shared-slice-read-wide-2 : tie.Need-shared-slice-read-wide-2
+shared-slice-read-wide-2 c = search needs
+
+wide-requires-2 : tie.Need-wide-requires-2
+wide-requires-2 c κs = search needs
+
+no-source-requires-2 : tie.Need-no-source-requires-2
+no-source-requires-2 c κs = search needs
+
+returns-3 : tie.Need-returns-3
+returns-3 c =
+    let a = c .before .before .before .before .before .before .before .before .before .before .before .before .before .before .before .args in
     let N = netIn (a .file .now) (a .tables .now) (a .nodes .now) in
     let q : ℕ → Bool = λ p. noSource N (getD (a .sources .now) (a .from + p) 0) in
-    sym (any-passed (a .n) q (λ p h. c .before .loop .inv p (omega arith)))
+    sym (anyBelow-intro (a .n) q (c .before .before .before .before .or-first .result) (below (c .before .before .before .before .or-first .ensures .0) (omega (arith, c .before .before .before .before .before .before .before .before .before .if1 .left))) (ap (noSource N) (sym (c .before .before .wide2 .ensures .0)) ∙ sym (c .before .no-source2 .ensures) ∙ c .if3 .taken))
+
+or-first-requires-2 : tie.Need-or-first-requires-2
+or-first-requires-2 c κs = search needs
+
+add-third : tie.Need-add-third
+add-third c = search needs
+
+mul-wide-3 : tie.Need-mul-wide-3
+mul-wide-3 c = search needs
+
+shared-slice-read-wide-3 : tie.Need-shared-slice-read-wide-3
+shared-slice-read-wide-3 c = search needs
+
+wide-requires-3 : tie.Need-wide-requires-3
+wide-requires-3 c κs = search needs
+
+no-source-requires-3 : tie.Need-no-source-requires-3
+no-source-requires-3 c κs = search needs
+
+returns-4 : tie.Need-returns-4
+returns-4 c =
+    let a = c .before .before .before .before .before .before .before .before .before .before .before .before .before .before .before .before .before .before .before .args in
+    let N = netIn (a .file .now) (a .tables .now) (a .nodes .now) in
+    let start : a .from ≡ a .from + 0 = omega arith in
+    let q : ℕ → Bool = λ p. noSource N (getD (a .sources .now) (a .from + p) 0) in
+    let third = c .before .before .before .or-first2 .result in
+    let told = c .no-source3 .ensures ∙ ap (noSource N) (c .before .wide3 .ensures .0) in
+    told
+    ∙ ⊎-elim
+    (λ t. t ∙ sym (anyBelow-intro (a .n) q third (below (c .before .before .before .or-first2 .ensures .0) (omega (arith, c .before .before .before .before .before .before .before .before .before .before .before .before .before .if1 .left))) t))
+    (λ t. t ∙ sym (any-passed (a .n) q (all-looked (c .before .before .before .before .before .before .before .before .or-first .ensures .0) (c .before .before .before .or-first2 .ensures .0) (c .before .before .before .before .before .before .before .before .before .before .before .before .before .before .before .before .before .before .before .pre .1) q (ap (noSource N) (sym (c .before .before .before .before .before .before .before .before .before .before .before .wide .ensures .0 ∙ ap (λ (k : ℕ). getD (a .sources .now) k 0) start)) ∙ sym (c .before .before .before .before .before .before .before .before .before .before .no-source .ensures) ∙ c .before .before .before .before .before .before .before .before .before .if2 .left) (ap (noSource N) (sym (c .before .before .before .before .before .before .wide2 .ensures .0)) ∙ sym (c .before .before .before .before .before .no-source2 .ensures) ∙ c .before .before .before .before .if3 .left) t)))
+    (true-or-false (q third))
 
 pub any-no-source-spec : {M : Type 1} → statement M
 any-no-source-spec =
     tie.close
     (tie.spec
-    Inv-loop
-    μ-loop
-    loop-holds
-    add-wide
+    returns
     mul-wide
     shared-slice-read-wide
     wide-requires
     no-source-requires
-    returns
-    add-p
-    loop-less
-    loop-again
-    returns-2)
+    returns-2
+    or-first-requires
+    add-second
+    mul-wide-2
+    shared-slice-read-wide-2
+    wide-requires-2
+    no-source-requires-2
+    returns-3
+    or-first-requires-2
+    add-third
+    mul-wide-3
+    shared-slice-read-wide-3
+    wide-requires-3
+    no-source-requires-3
+    returns-4)

@@ -23,7 +23,7 @@ mul-any-no-source : tie.Need-mul-any-no-source
 mul-any-no-source c = omega (arith, c .before .before .before .before .before .before .before .before .pre .1, c .before .before .before .before .before .before .before .before .pre .0 .few-nodes)
 
 any-no-source-requires : tie.Need-any-no-source-requires
-any-no-source-requires c κs = (c .before .before .before .before .before .before .before .before .pre .0, omega (arith, c .before .before .before .before .before .before .before .before .pre .1, c .before .before .before .before .before .before .before .before .pre .0 .few-nodes, c .before .before .before .before .before .before .before .before .pre .2 .source-room, c .count-at .ensures .1), c .before .before .before .before .before .before .before .before .pre .2)
+any-no-source-requires c κs = (c .before .before .before .before .before .before .before .before .pre .0, c .count-at .ensures .1, omega (arith, c .before .before .before .before .before .before .before .before .pre .1, c .before .before .before .before .before .before .before .before .pre .0 .few-nodes, c .before .before .before .before .before .before .before .before .pre .2 .source-room), c .before .before .before .before .before .before .before .before .pre .2)
 
 returns-2 : tie.Need-returns-2
 returns-2 c =
