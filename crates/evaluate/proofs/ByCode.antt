@@ -1,7 +1,7 @@
 -- What a node gives, by its code. Assumes nothing.
 use mathlib.Core.Path.{_≡_, refl, ap, subst, _∙_}
 use mathlib.Core.Logic.{_⊎_, inl, inr}
-use mathlib.Core.Bool.{true, false≢true}
+use mathlib.Core.Bool.{true, false, true≢false, false≢true}
 use mathlib.Core.List.{List}
 use Prim.Native.Nat.{ℕ, _+_, _*_, _^_, _≤_, _<_}
 use native.Mathlib.Omega.{arith}
@@ -19,36 +19,46 @@ use Rattle.columns.specs.Columns.{Columns, source-is}
 use Rattle.columns.specs.Columns as columns
 use Rattle.behaviour.specs.Run.{gives-now}
 use Rattle.behaviour.specs.Fits.{operate-fits}
-use Rattle.evaluate.specs.Clock.{nodeWord, OperandsFit}
+use Rattle.evaluate.specs.Clock.{loaded, nodeWord, OperandsFit}
 
 -- ---- the codes
 
 module _ {k : ℕ} where
-  pub own-code : (k ≡ 0) ⊎ (k ≡ 2) ⊎ (k ≡ 4) → (k ≡ 1 → ⊥) × (k ≡ 3 → ⊥) × (k < 5)
+  own-code : (k ≡ 0) ⊎ (k ≡ 2) ⊎ (k ≡ 4) → (k ≡ 1 → ⊥) × (k ≡ 3 → ⊥) × (k < 5)
   own-code (inl e) = (λ q. omega arith, λ q. omega arith, omega arith)
   own-code (inr (inl e)) = (λ q. omega arith, λ q. omega arith, omega arith)
   own-code (inr (inr e)) = (λ q. omega arith, λ q. omega arith, omega arith)
 
-  pub gate-code : ((k ≡ 0) ⊎ (k ≡ 2) ⊎ (k ≡ 4) → ⊥) → (k ≡ 1 → ⊥) → (k ≡ 3 → ⊥) → 5 ≤ k
-  gate-code a b d =
-      let no-zero : k ≡ 0 → ⊥ = λ e. a (inl e) in
-      let no-two : k ≡ 2 → ⊥ = λ e. a (inr (inl e)) in
-      let no-four : k ≡ 4 → ⊥ = λ e. a (inr (inr e)) in
-      omega arith
+  pub loaded-code : (k ≡ 0) ⊎ (k ≡ 2) ⊎ (k ≡ 4) → (e : Element) → k ≡ codeOf e → true ≡ loaded e
+  loaded-code a Input q = refl
+  loaded-code a Output q = absurd (own-code a .0 q)
+  loaded-code a (Register r) q = refl
+  loaded-code a (Async m) q = absurd (own-code a .1 q)
+  loaded-code a (Clocked m r) q = refl
+  loaded-code a (Gate o) q = absurd (omega (arith, own-code a .2))
+
+  pub other-code : ((k ≡ 0) ⊎ (k ≡ 2) ⊎ (k ≡ 4) → ⊥) → (e : Element) → k ≡ codeOf e → false ≡ loaded e
+  other-code a Input q = absurd (a (inl q))
+  other-code a Output q = refl
+  other-code a (Register r) q = absurd (a (inr (inl q)))
+  other-code a (Async m) q = refl
+  other-code a (Clocked m r) q = absurd (a (inr (inr q)))
+  other-code a (Gate o) q = refl
+
+  -- what is not loaded is an output port, an asynchronous ROM or a gate
+  pub gate-code : (e : Element) → k ≡ codeOf e → loaded e ≡ false → (k ≡ 1 → ⊥) → (k ≡ 3 → ⊥) → 5 ≤ k
+  gate-code Input q l a b = absurd (true≢false l)
+  gate-code Output q l a b = absurd (a q)
+  gate-code (Register r) q l a b = absurd (true≢false l)
+  gate-code (Async m) q l a b = absurd (b q)
+  gate-code (Clocked m r) q l a b = absurd (true≢false l)
+  gate-code (Gate o) q l a b = omega arith
 
 -- ---- an element
 
 module _ (M : List ℕ) (w : ℕ) (ws : ℕ → ℕ) (own : ℕ) (d : ℕ → ℕ) where
   abbrev gives : Element → ℕ
   gives e = gives-now M e w ws own own d
-
-  own-gives : (e : Element) → (codeOf e ≡ 1 → ⊥) → (codeOf e ≡ 3 → ⊥) → codeOf e < 5 → own ≡ gives e
-  own-gives Input a b h = refl
-  own-gives Output a b h = absurd (a refl)
-  own-gives (Register r) a b h = refl
-  own-gives (Async m) a b h = absurd (b refl)
-  own-gives (Clocked m r) a b h = refl
-  own-gives (Gate o) a b h = absurd (omega arith)
 
   output-gives : (e : Element) → codeOf e ≡ 1 → d 0 ≡ gives e
   output-gives Input h = absurd (omega arith)
@@ -103,10 +113,6 @@ module _ (N : Net) (v : ℕ) where
 
     abbrev read : ℕ → ℕ
     read p = getD ws (source N v p) 0
-
-    pub node-own : (codeOf (elementAt N v) ≡ 1 → ⊥) → (codeOf (elementAt N v) ≡ 3 → ⊥) → codeOf (elementAt N v) < 5 → getD ws v 0 ≡ nodeWord N ws v
-    unfolding nodeWord
-    node-own = own-gives (contentsAt N v) (widthAt N v) wide (getD ws v 0) read (elementAt N v)
 
     pub node-output : codeOf (elementAt N v) ≡ 1 → read 0 ≡ nodeWord N ws v
     unfolding nodeWord

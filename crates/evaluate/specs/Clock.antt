@@ -1,12 +1,18 @@
 -- What a node gives from the words of all nodes, and the words of a clock. Assumes nothing.
 use mathlib.Core.Path.{_≡_}
+use mathlib.Core.Bool.{Bool, _||_}
 use mathlib.Core.List.{List}
 use Prim.Native.Nat.{ℕ, _^_, _<_}
 use lib.ListN.{length, getD}
-use Rattle.netlist.specs.Net.{Net, size, elementAt, widthAt, source, withinClock, contentsAt}
+use Rattle.netlist.specs.Net.{Net, size, elementAt, widthAt, source, withinClock, contentsAt, isInput, holdsWord}
+use Rattle.netlist.specs.declared.Element.{Element}
 use Rattle.behaviour.specs.Run.{gives-now, words}
 use Rattle.evaluate.specs.Rows.{rowOf}
 use Rattle.evaluate.specs.declared.Row.the-variants.{Inputs, State}
+
+-- input ports, registers and clocked ROMs are loaded
+abbrev pub loaded : Element → Bool
+loaded e = isInput e || holdsWord e
 
 -- what a node gives: its own word where that was loaded, else from its sources' words
 unfoldable pub nodeWord : Net → List ℕ → ℕ → ℕ

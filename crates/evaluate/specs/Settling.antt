@@ -1,7 +1,7 @@
 -- Nodes are evaluated one after the other in an order in which each comes after what it reads. Assumes nothing.
 use mathlib.Core.Path.{_≡_, refl, sym, ap, subst, _∙_}
 use mathlib.Core.Logic.{⊎-elim}
-use mathlib.Core.Bool.{Bool, true, _||_, false≢true}
+use mathlib.Core.Bool.{true, false, true≢false, false≢true}
 use mathlib.Core.List.{List}
 use Prim.Native.Nat.{ℕ, suc, _+_, _^_, _≤_, _<_}
 use native.Mathlib.Nat.{not-suc-le-zero}
@@ -20,25 +20,22 @@ use Rattle.order.specs.Order.{Stands, Complete}
 use Rattle.behaviour.specs.Run.{gives-now, holderOf, contentsNow, again}
 use Rattle.behaviour.specs.Gives.{operate-cong}
 use Rattle.evaluate.specs.Rows.{rowTest, rowOf, RowFits}
-use Rattle.evaluate.specs.Clock.{nodeWord, OperandsFit, clockWords, Evaluated}
+use Rattle.evaluate.specs.Clock.{loaded, nodeWord, OperandsFit, clockWords, Evaluated}
 use Rattle.evaluate.specs.ClockFits.{word-settled, word-fits}
 use Rattle.evaluate.specs.declared.Row.{Row}
 use Rattle.evaluate.specs.declared.Row.the-variants.{Inputs, State}
 
--- a loaded element gives its own word; any other depends on what it reads within the clock
-now-same : (M : List ℕ) (w : ℕ) (ws : ℕ → ℕ) (own i h : ℕ) (d d′ : ℕ → ℕ) (e : Element) → (isInput e ≡ true → own ≡ i) → (holdsWord e ≡ true → own ≡ h)
-    → ((p : ℕ) → p < withinClock e → d p ≡ d′ p) → gives-now M e w ws own own d ≡ gives-now M e w ws i h d′
-now-same M w ws own i h d d′ Input a b k = a refl
-now-same M w ws own i h d d′ Output a b k = k 0 (lit< tt)
-now-same M w ws own i h d d′ (Register r) a b k = b refl
-now-same M w ws own i h d d′ (Async m) a b k = ap (λ (x : ℕ). getD M x 0) (k 0 (lit< tt))
-now-same M w ws own i h d d′ (Clocked m r) a b k = b refl
-now-same M w ws own i h d d′ (Gate o) a b k = operate-cong w ws ws d d′ o (λ p q. refl) k
+-- an element that is not loaded depends on what it reads within the clock
+now-same : (M : List ℕ) (w : ℕ) (ws : ℕ → ℕ) (own i h : ℕ) (d d′ : ℕ → ℕ) (e : Element) → loaded e ≡ false → ((p : ℕ) → p < withinClock e → d p ≡ d′ p)
+    → gives-now M e w ws own own d ≡ gives-now M e w ws i h d′
+now-same M w ws own i h d d′ Input l k = absurd (true≢false l)
+now-same M w ws own i h d d′ Output l k = k 0 (lit< tt)
+now-same M w ws own i h d d′ (Register r) l k = absurd (true≢false l)
+now-same M w ws own i h d d′ (Async m) l k = ap (λ (x : ℕ). getD M x 0) (k 0 (lit< tt))
+now-same M w ws own i h d d′ (Clocked m r) l k = absurd (true≢false l)
+now-same M w ws own i h d d′ (Gate o) l k = operate-cong w ws ws d d′ o (λ p q. refl) k
 
--- input ports, registers and clocked ROMs are loaded
-abbrev loaded : Element → Bool
-loaded e = isInput e || holdsWord e
-
+-- a loaded one gives its own word
 own-word : (M : List ℕ) (w : ℕ) (ws : ℕ → ℕ) (own i h : ℕ) (d : ℕ → ℕ) (e : Element) → loaded e ≡ true → (isInput e ≡ true → i ≡ own) → (holdsWord e ≡ true → h ≡ own)
     → gives-now M e w ws i h d ≡ own
 own-word M w ws own i h d Input l a b = a refl
@@ -47,17 +44,6 @@ own-word M w ws own i h d (Register r) l a b = b refl
 own-word M w ws own i h d (Async m) l a b = absurd (false≢true l)
 own-word M w ws own i h d (Clocked m r) l a b = b refl
 own-word M w ws own i h d (Gate o) l a b = absurd (false≢true l)
-
-input-loaded : (e : Element) → isInput e ≡ true → loaded e ≡ true
-input-loaded e t = ap (λ (b : Bool). b || holdsWord e) t
-
-holder-loaded : (e : Element) → holdsWord e ≡ true → loaded e ≡ true
-holder-loaded Input t = refl
-holder-loaded Output t = absurd (false≢true t)
-holder-loaded (Register r) t = refl
-holder-loaded (Async m) t = absurd (false≢true t)
-holder-loaded (Clocked m r) t = refl
-holder-loaded (Gate o) t = absurd (false≢true t)
 
 -- ---- the words that were loaded are those of the clock
 
@@ -106,17 +92,23 @@ module _ {N : Net} {order before after : List ℕ} {i : ℕ} (wf : WellFormed N)
     unfolding Sourced
     settle-fits a b p q = rw (read-right p q) (clock-fits N wf before a b (source N v p) (wf .sourced v p settle-inside (omega (arith, within-few (elementAt N v)))))
 
-    module _ (x : ℕ) (is : x ≡ nodeWord N after v) (room : size N ≤ length before) where
-      own-right : (row : Row) → rowTest row N v ≡ true → loaded (elementAt N v) ≡ true → getD after v 0 ≡ getD (rowOf row N before) (countBelow (rowTest row N) v) 0
-      own-right row y g = t .given v settle-inside g ∙ loaded-word N wf before v settle-inside g ∙ sym (row-word N wf before row v settle-inside y)
+    -- a node that is loaded has its word
+    pub settle-own : loaded (elementAt N v) ≡ true → Settling N order before after (i + 1)
+    settle-own y = record { kept = t .kept; given = t .given; stand = stand }
+      where
+        stand : (u : ℕ) → Stands order (i + 1) u → getD after u 0 ≡ getD (clockWords N before) u 0
+        stand u (j, m, e) =
+            ⊎-elim (λ k. t .stand u (j, k, e))
+            (λ k. subst (λ (w : ℕ). getD after w 0 ≡ getD (clockWords N before) w 0) (ap (λ (n : ℕ). getD order n 0) (sym k) ∙ e) (t .given v settle-inside y))
+            (lt-suc-split (let k : j < suc i = omega arith in k))
 
+    module _ (x : ℕ) (is : x ≡ nodeWord N after v) (room : size N ≤ length before) (new : loaded (elementAt N v) ≡ false) where
       x-right : x ≡ getD (clockWords N before) v 0
-      unfolding clockWords nodeWord again contentsNow contentsAt portOf holderOf source
+      unfolding clockWords nodeWord again contentsNow contentsAt source
       x-right =
           is
           ∙ now-same (contentsAt N v) (widthAt N v) (λ p. widthAt N (source N v p)) (getD after v 0) (getD (rowOf Inputs N before) (portOf N v) 0) (getD (rowOf State N before) (holderOf N v) 0)
-          (λ p. getD after (source N v p) 0) (λ p. getD (clockWords N before) (source N v p) 0) (elementAt N v)
-          (λ y. own-right Inputs y (input-loaded (elementAt N v) y)) (λ y. own-right State y (holder-loaded (elementAt N v) y)) read-right
+          (λ p. getD after (source N v p) 0) (λ p. getD (clockWords N before) (source N v p) 0) (elementAt N v) new read-right
           ∙ sym (word-settled N wf (rowOf State N before) (rowOf Inputs N before) v settle-inside)
 
       here : (u : ℕ) → u ≡ v → getD (set after v x) u 0 ≡ getD (clockWords N before) u 0

@@ -10,7 +10,7 @@ use reader::table_part;
 use words::Op;
 use words::word_at;
 ghost use mathlib.Core.Path.{_≡_};
-ghost use mathlib.Core.Bool.{true};
+ghost use mathlib.Core.Bool.{true, false};
 ghost use Prim.Native.Nat.{_^_, _<_, _≤_};
 ghost use lib.ListN.{length, getD};
 ghost use Rattle.netlist.specs.declared.Element.{Element};
@@ -19,10 +19,11 @@ ghost use Rattle.netlist.specs.NodeField.{kindOf};
 ghost use Rattle.netlist.specs.Checks.{WellFormed};
 ghost use Rattle.netlist.specs.ScanLaws.{Found};
 ghost use Rattle.netlist.specs.File.{netIn};
+ghost use Rattle.nodes.specs.Code.{codeOf};
 ghost use Rattle.columns.specs.Columns.{Columns, Widths};
 ghost use Rattle.order.specs.Order.{Complete};
 ghost use Rattle.evaluate.specs.Rows.{inRow, RowFits};
-ghost use Rattle.evaluate.specs.Clock.{nodeWord, OperandsFit, Evaluated};
+ghost use Rattle.evaluate.specs.Clock.{loaded, nodeWord, OperandsFit, Evaluated};
 
 // The rows of words that a host lends: one word for each node of a class, by node number.
 pub enum Row {
@@ -62,7 +63,17 @@ pub fn memory_word(file: &[u8], tables: &[u16], nodes: &[u16], v: usize, address
     rom_word(file, tables, nodes, file[at + 7] as usize, wide(address))
 }
 
-// The word of node v: its own where it was loaded, else from its sources' words. What a constant and a part hold stands in the file.
+// Whether a node keeps the word that was loaded, by its code: an input port, a register, a clocked ROM.
+fn keeps_word(code: u8) -> bool
+    ensures { λ r. ⌜ ((e : Element) → code ≡ codeOf e → r ≡ loaded e) ⌝ }
+{
+    match code {
+        0 | 2 | 4 => true,
+        _ => false,
+    }
+}
+
+// The word of node v, which was not loaded, from its sources' words. What a constant and a part hold stands in the file.
 // Where an operation has fewer than three sources, what is read for the others does not count.
 fn node_word(
     file: &[u8],
@@ -77,7 +88,8 @@ fn node_word(
     requires { ⌜ Found (now file) (now tables) (now nodes) × WellFormed (netIn (now file) (now tables) (now nodes)) × (v < length (now nodes))
         × (length (now nodes) ≤ length (now words)) × OperandsFit (netIn (now file) (now tables) (now nodes)) (now words) v
         × Columns (netIn (now file) (now tables) (now nodes)) (now codes) (now sources) (length (now nodes))
-        × Widths (netIn (now file) (now tables) (now nodes)) (now widths) (length (now nodes)) ⌝ }
+        × Widths (netIn (now file) (now tables) (now nodes)) (now widths) (length (now nodes))
+        × (loaded (elementAt (netIn (now file) (now tables) (now nodes)) v) ≡ false) ⌝ }
     ensures { λ r. ⌜ r ≡ nodeWord (netIn (now (file .entry)) (now (tables .entry)) (now (nodes .entry))) (now (words .entry)) v ⌝ }
 {
     // Whatever a gate may ask for is read first and on no condition, so that it does not wait for the jump by the code.
@@ -93,7 +105,6 @@ fn node_word(
     let at = wide(nodes[v]);
     let code = codes[v];
     match code {
-        0 | 2 | 4 => words[v],
         1 => first,
         3 => memory_word(file, tables, nodes, v, first),
         5 => {
@@ -129,11 +140,14 @@ pub fn evaluate(
     let mut i: usize = 0;
     while i < nodes.len() {
         let v = wide(number_at(order, i));
-        put_number(
-            words,
-            v,
-            node_word(file, tables, nodes, v, words, codes, sources, widths),
-        );
+        // The nodes that read nothing come first in the order, so that this branch is foreseen.
+        if !keeps_word(codes[v]) {
+            put_number(
+                words,
+                v,
+                node_word(file, tables, nodes, v, words, codes, sources, widths),
+            );
+        }
         i = i + 1;
     }
 }

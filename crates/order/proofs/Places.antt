@@ -3,8 +3,10 @@ use mathlib.Core.Path.{_≡_, refl, sym, ap, subst, _∙_}
 use mathlib.Core.Bool.{Bool, true, true≢false}
 use mathlib.Core.List.{List}
 use Prim.Native.Nat.{ℕ, _+_, _*_, _≤_, _<_}
+use native.Mathlib.Nat.{le-refl}
 use native.Mathlib.Omega.{arith}
 use lib.ListN.{getD, set}
+use lib.Dec.{eqb}
 use borrow.Author.Tests.{le-ltb}
 use Rattle.lists.specs.Lists.{one, allBelow}
 use Rattle.netlist.specs.Net.{Class, Net, size, elementAt, source, isRegister, Sourced}
@@ -13,8 +15,8 @@ use Rattle.netlist.specs.declared.Element.the-variants.{Input, Output, Register
 use Rattle.nodes.specs.Code.{codeOf}
 use Rattle.columns.specs.Columns.{Columns, source-is, all-same}
 use Rattle.order.specs.Pass.{on, Waiting, once-more, swept-rest}
-use Rattle.order.specs.Order.{Placed, ready, PlacedOnce, PlacedPass}
-use Rattle.order.specs.OrderLaws.{placed-more, full}
+use Rattle.order.specs.Order.{Placed, Clear, ready, PlacedOnce, PlacedPass}
+use Rattle.order.specs.OrderLaws.{placed-more, placed-free, clear-more, full}
 
 -- the steps into registers, by the code
 pub register-counts : (e : Element) → codeOf e ≡ 2 → 1 ≡ one (isRegister e)
@@ -49,6 +51,11 @@ module _ (K : Class) (N : Net) where
   pub placed-once : {flags order f o : List ℕ} {k v : ℕ} → Placed K N flags order k → Sourced N → v < size N → getD flags v 0 ≤ 0 → ready K N flags v ≡ true → f ≡ set flags v 1 → o ≡ set order k v → PlacedOnce K N flags f o k (k + 1) v
   placed-once {flags} {order} {f} {o} {k} {v} t sourced l off all p q =
       once-more (subst (λ (x : List ℕ). Placed K N x o (k + 1)) (sym p) (subst (λ (y : List ℕ). Placed K N (set flags v 1) y (k + 1)) (sym q) (placed-more K N t sourced v l (le-ltb 0 (getD flags v 0) off) all)))
+
+  -- a try at node v, of which n sources count, where no node from v on is flagged
+  pub freed : {flags order f o : List ℕ} {k v n x : ℕ} → Placed K N flags order k → Clear N flags v → Sourced N → v < size N → n ≡ K .of (elementAt N v) → x ≡ one (eqb n 0) → f ≡ set flags v x → o ≡ set order k v
+      → Placed K N f o (k + x) × Clear N f (v + 1)
+  freed {flags} {v = v} {n} t clear sourced l q e p r = rw (p, r, e) (placed-free K N t sourced v l (clear v (le-refl v) l) n q, clear-more K N flags v (one (eqb n 0)) clear)
 
   pub placed-rest : {flags₀ flags order : List ℕ} {k₀ k i : ℕ} → PlacedPass K N flags₀ flags order k₀ k i → k ≡ k₀ → Placed K N flags order k₀ × Waiting (ready K N) flags i
   placed-rest {flags₀} {flags} {order} {k₀} {k} {i} s e = (subst (λ (m : ℕ). Placed K N flags order m) e (s .holds), swept-rest s e)

@@ -1,6 +1,6 @@
 -- An order of nodes in which each comes after those that it reads by steps of a class. Assumes nothing.
 use mathlib.Core.Path.{_≡_}
-use mathlib.Core.Bool.{Bool, true}
+use mathlib.Core.Bool.{Bool, true, false}
 use mathlib.Core.List.{List}
 use Prim.Native.Nat.{ℕ, _≤_, _<_}
 use lib.ListN.{length, getD}
@@ -37,6 +37,10 @@ pub record Placed (K : Class) (N : Net) (flags order : List ℕ) (k : ℕ) : Typ
   pub ordered : Ordered K N order k
   pub count : countBelow (λ v. on flags v) (size N) ≡ k
   pub stands : (v : ℕ) → v < size N → on flags v ≡ true → Stands order k v
+
+-- no node from v on is flagged
+abbrev pub Clear : Net → List ℕ → ℕ → Type 0
+Clear N flags v = (u : ℕ) → v ≤ u → u < size N → on flags u ≡ false
 
 -- all that v reads is flagged
 abbrev pub ready : Class → Net → List ℕ → ℕ → Bool

@@ -4,18 +4,19 @@ use mathlib.Core.Logic.{_⊎_, ⊎-elim}
 use mathlib.Core.Bool.{Bool, true, false, true≢false}
 use mathlib.Core.List.{List}
 use Prim.Native.Nat.{ℕ, zero, suc, _+_, _≤_, _<_}
-use native.Mathlib.Nat.{not-suc-le-zero}
+use native.Mathlib.Nat.{not-suc-le-zero, le-refl, add-zero}
 use native.Mathlib.Omega.{arith}
 use lib.ListN.{length, getD, set, replicate, length-set, length-replicate, getD-replicate}
-use lib.Seq.{getD-set-same, getD-set-other}
+use lib.Seq.{getD-set-same, getD-set-other, set-getD}
 use lib.Dec.{ltb, eqb}
+use borrow.Author.Tests.{ltb-false}
 use Rattle.lists.specs.Lists.{one, anyBelow, allBelow, countBelow}
 use Rattle.lists.specs.BelowLaws.{true-or-false, lt-suc-split, eqb-true, eqb-differ, allBelow-elim, allBelow-fails, anyBelow-intro, countBelow-le}
 use Rattle.lists.specs.SearchLaws.{count-one-more, count-less, count-same}
 use Rattle.netlist.specs.Net.{Class, Net, size, elementAt, source, Sourced}
 use Rattle.netlist.specs.Rank.{ReadsIn, Through, once, then, unsettled, unsettled-loop}
 use Rattle.order.specs.Pass.{on, Waiting}
-use Rattle.order.specs.Order.{Stands, Ordered, Complete, Placed, ready}
+use Rattle.order.specs.Order.{Stands, Ordered, Complete, Placed, Clear, ready}
 
 pub zeros-off : (m v : ℕ) → _≡_ {A = ℕ} (getD (replicate m 0) v 0) 0
 zeros-off zero v = refl
@@ -68,6 +69,26 @@ module _ (K : Class) (N : Net) where
   stands-kept : (order : List ℕ) (k v i u : ℕ) → i ≤ k → Stands order i u → Stands (set order k v) i u
   stands-kept order k v i u l (j, m, e) = (j, m, kept-in order k v j (omega arith) ∙ e)
 
+  -- what is written behind the first k does not count
+  module _ {order : List ℕ} {k : ℕ} (o : Ordered K N order k) (v : ℕ) where
+    old-inside : (i : ℕ) → i < k → getD (set order k v) i 0 < size N
+    old-inside i a = subst (λ (x : ℕ). x < size N) (sym (kept-in order k v i a)) (o .inside i a)
+
+    old-after : (i p : ℕ) → i < k → p < K .of (elementAt N (getD (set order k v) i 0)) → Stands (set order k v) i (source N (getD (set order k v) i 0) p)
+    old-after i p a q =
+        let e = kept-in order k v i a in
+        subst (λ (x : ℕ). Stands (set order k v) i (source N x p)) (sym e)
+        (stands-kept order k v i (source N (getD order i 0) p) (omega arith) (o .after i p a (subst (λ (x : ℕ). p < K .of (elementAt N x)) e q)))
+
+  placed-past : {flags order : List ℕ} {k : ℕ} → Placed K N flags order k → (v : ℕ) → Placed K N flags (set order k v) k
+  placed-past {flags} {order} {k} t v = record {
+    flags-room = t .flags-room;
+    order-room = subst (λ (m : ℕ). size N ≤ m) (sym (length-set order k v)) (t .order-room);
+    ordered = record { inside = old-inside (t .ordered) v; after = old-after (t .ordered) v };
+    count = t .count;
+    stands = λ u m e. stands-kept order k v k u (le-refl k) (t .stands u m e);
+  }
+
   module _ {flags order : List ℕ} {k : ℕ} (t : Placed K N flags order k) (sourced : Sourced N) (v : ℕ) (l : v < size N) (off : on flags v ≡ false) (all : ready K N flags v ≡ true) where
     space : k < length order
     space = let r = room t v l off in let o = t .order-room in omega arith
@@ -77,15 +98,9 @@ module _ (K : Class) (N : Net) where
 
     inside-more : (i : ℕ) → i < k + 1 → getD (set order k v) i 0 < size N
     inside-more i m =
-        ⊎-elim (λ a. subst (λ (x : ℕ). x < size N) (sym (kept-in order k v i a)) (t .ordered .inside i a))
+        ⊎-elim (λ a. old-inside (t .ordered) v i a)
         (λ a. subst (λ (x : ℕ). x < size N) (sym (ap (λ (j : ℕ). getD (set order k v) j 0) a ∙ here)) l)
         (lt-suc-split (let b : i < suc k = omega arith in b))
-
-    old-after : (i p : ℕ) → i < k → p < K .of (elementAt N (getD (set order k v) i 0)) → Stands (set order k v) i (source N (getD (set order k v) i 0) p)
-    old-after i p a q =
-        let e = kept-in order k v i a in
-        subst (λ (x : ℕ). Stands (set order k v) i (source N x p)) (sym e)
-        (stands-kept order k v i (source N (getD order i 0) p) (omega arith) (t .ordered .after i p a (subst (λ (x : ℕ). p < K .of (elementAt N x)) e q)))
 
     new-after : (p : ℕ) → p < K .of (elementAt N (getD (set order k v) k 0)) → Stands (set order k v) k (source N (getD (set order k v) k 0) p)
     unfolding Sourced
@@ -97,7 +112,7 @@ module _ (K : Class) (N : Net) where
 
     after-more : (i p : ℕ) → i < k + 1 → p < K .of (elementAt N (getD (set order k v) i 0)) → Stands (set order k v) i (source N (getD (set order k v) i 0) p)
     after-more i p m q =
-        ⊎-elim (λ a. old-after i p a q)
+        ⊎-elim (λ a. old-after (t .ordered) v i p a q)
         (λ a. subst (λ (j : ℕ). p < K .of (elementAt N (getD (set order k v) j 0)) → Stands (set order k v) j (source N (getD (set order k v) j 0) p)) (sym a) (λ r. new-after p r) q)
         (lt-suc-split (let b : i < suc k = omega arith in b))
 
@@ -121,6 +136,26 @@ module _ (K : Class) (N : Net) where
       count = count-one-more (λ u. on flags u) (λ u. on (set flags v 1) u) (size N) v l off (on-same flags v flagged) (λ u m d. sym (on-other flags v flagged u d)) ∙ ap (_+ 1) (t .count);
       stands = stands-more;
     }
+
+  -- ---- the nodes that read nothing, in file order
+
+  pub clear-none : {flags order : List ℕ} → Placed K N flags order 0 → Clear N flags 0
+  clear-none {flags} t u a l = ⊎-elim (λ y. absurd (not-suc-le-zero (t .stands u l y .1))) (λ n. n) (true-or-false (on flags u))
+
+  pub clear-more : (flags : List ℕ) (v x : ℕ) → Clear N flags v → Clear N (set flags v x) (v + 1)
+  clear-more flags v x f u a l = ap (ltb 0) (getD-set-other flags v u x 0 (λ e. omega arith)) ∙ f u (omega arith) l
+
+  -- node v is placed where it reads nothing; else what is written changes nothing
+  module _ {flags order : List ℕ} {k : ℕ} (t : Placed K N flags order k) (sourced : Sourced N) (v : ℕ) (l : v < size N) (off : on flags v ≡ false) where
+    unset : set flags v 0 ≡ flags
+    unset = ap (set flags v) (let e : 0 ≡ getD flags v 0 = omega (arith, ltb-false 0 (getD flags v 0) off) in e) ∙ set-getD flags v 0
+
+    placed-if : (b : Bool) → (b ≡ true → ready K N flags v ≡ true) → Placed K N (set flags v (one b)) (set order k v) (k + one b)
+    placed-if true all = placed-more t sourced v l off (all refl)
+    placed-if false all = rw (unset, add-zero) (placed-past t v)
+
+    pub placed-free : (n : ℕ) → n ≡ K .of (elementAt N v) → Placed K N (set flags v (one (eqb n 0))) (set order k v) (k + one (eqb n 0))
+    placed-free n q = placed-if (eqb n 0) (λ y. ap (λ (m : ℕ). allBelow m (λ p. on flags (source N v p))) (sym q ∙ eqb-true y))
 
   -- ---- nothing in the order is on a loop
 

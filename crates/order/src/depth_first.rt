@@ -2,6 +2,7 @@
 use super::Steps;
 use super::count_at;
 use super::first_waiting;
+use super::free::place_free;
 use super::place_ready;
 use areas::flag_at;
 use areas::number_at;
@@ -243,7 +244,7 @@ fn walk_from(
     at
 }
 
-// Walks from every node in file order.
+// Places the free nodes, and walks from every other in file order.
 pub fn walk_all(
     file: &[u8],
     tables: &[u16],
@@ -262,7 +263,17 @@ pub fn walk_all(
 {
     let mut stack = [0u16; 1024];
     let mut met = [0u8; 1024];
-    let mut placed: usize = 0;
+    let mut placed = place_free(
+        file,
+        tables,
+        nodes,
+        steps,
+        flags,
+        order,
+        &mut met,
+        codes,
+        sources,
+    );
     let mut noted: usize = 0;
     let mut root: usize = 0;
     while root < nodes.len() {

@@ -1,6 +1,7 @@
 // Puts the nodes of an indexed netlist into an order in which each comes after what it reads within the clock (or among registers).
 // A depth-first walk proposes the order and nobody trusts it: a node is placed only where all that it reads is placed.
 mod depth_first;
+mod free;
 
 use areas::flag_at;
 use areas::put_flag;
@@ -193,7 +194,7 @@ fn settle(
 }
 
 // Places all nodes that can be placed and gives their number. The flags are 0 at first. What the hint holds afterwards is not said: it is the order in which a
-// depth-first walk left the nodes, sources before readers, for whoever can use an order without trusting it.
+// depth-first walk left the nodes that read something that counts, sources before readers, for whoever can use an order without trusting it.
 pub fn order_with_hint(
     file: &[u8],
     tables: &[u16],

@@ -1,15 +1,17 @@
 -- The loop's invariant: the nodes passed in the order have their words of the clock.
 use mathlib.Core.Path.{sym, ap, subst, _∙_}
+use mathlib.Core.Logic.{⊎-elim}
 use mathlib.Core.List.{List}
 use Prim.Native.Nat.{ℕ, _+_, _-_, _≤_, _<_}
 use native.Mathlib.Omega.{arith}
 use lib.ListN.{length, set}
-use Rattle.netlist.specs.Net.{size}
+use Rattle.netlist.specs.Net.{size, elementAt}
 use Rattle.netlist.specs.File.{netIn}
 use Rattle.netlist.specs.FileLaws.{size-in}
-use Rattle.evaluate.specs.Clock.{nodeWord, OperandsFit}
-use Rattle.evaluate.specs.Settling.{Settling, settle-none, settle-inside, settle-fits, settle-more, settle-all}
+use Rattle.evaluate.specs.Clock.{loaded, nodeWord, OperandsFit}
+use Rattle.evaluate.specs.Settling.{Settling, settle-none, settle-inside, settle-fits, settle-own, settle-more, settle-all}
 use borrow.Author.Needs.{needs}
+use borrow.Author.Tests.{not-true, not-false}
 use Rattle.evaluate.proofs.evaluate.Statement.{statement}
 use Rattle.evaluate.proofs.evaluate.Tie as tie
 
@@ -34,24 +36,36 @@ number-at-requires c κs = search needs
 wide-requires : tie.Need-wide-requires Inv-loop μ-loop
 wide-requires c κs = search needs
 
+shared-slice-read-keeps-word : tie.Need-shared-slice-read-keeps-word Inv-loop μ-loop
+shared-slice-read-keeps-word c =
+    let a = c .before .before .before .before .before .before .before .before .before .before .before .before .before .args in
+    let z = size-in (a .file .now) (a .tables .now) (a .nodes .now) in
+    let l : c .before .before .before .before .loop .i < size (netIn (a .file .now) (a .tables .now) (a .nodes .now)) = omega (arith, c .before .before .before .loop-test .taken) in
+    omega (arith, c .before .wide .ensures .0, c .before .before .number-at .ensures, settle-inside (c .before .before .before .before .before .before .before .before .before .before .before .before .before .pre .1) (c .before .before .before .before .before .before .before .before .before .before .before .before .before .pre .2) (c .before .before .before .before .loop .inv .1) l, c .before .before .before .before .before .before .before .before .before .before .before .before .before .pre .0 .few-nodes, c .before .before .before .before .before .before .before .before .before .before .before .before .before .pre .6 .code-room)
+
+keeps-word-requires : tie.Need-keeps-word-requires Inv-loop μ-loop
+keeps-word-requires c κs = search needs
+
 node-word-requires : tie.Need-node-word-requires Inv-loop μ-loop
 node-word-requires c κs =
-    let a = c .before .before .before .before .before .before .before .before .before .before .before .before .before .before .args in
+    let a = c .before .before .before .before .before .before .before .before .before .before .before .before .before .before .before .before .before .args in
     let s = a .file .now in
     let ts = a .tables .now in
     let ns = a .nodes .now in
     let N = netIn s ts ns in
     let z = size-in s ts ns in
-    let l : c .before .before .before .before .before .loop .i < size N = omega (arith, c .before .before .before .before .loop-test .taken) in
-    let t = c .before .before .before .before .before .loop .inv .1 in
-    let e = c .before .before .wide .ensures .0 ∙ c .before .before .before .number-at .ensures in (
-      c .before .before .before .before .before .before .before .before .before .before .before .before .before .before .pre .0,
-      c .before .before .before .before .before .before .before .before .before .before .before .before .before .before .pre .1,
-      omega (arith, settle-inside (c .before .before .before .before .before .before .before .before .before .before .before .before .before .before .pre .1) (c .before .before .before .before .before .before .before .before .before .before .before .before .before .before .pre .2) t l),
-      omega (arith, t .kept, c .before .before .before .before .before .before .before .before .before .before .before .before .before .before .pre .3),
-      subst (OperandsFit N (c .before .before .before .before .before .loop .words)) (sym e) (settle-fits (c .before .before .before .before .before .before .before .before .before .before .before .before .before .before .pre .1) (c .before .before .before .before .before .before .before .before .before .before .before .before .before .before .pre .2) t l (c .before .before .before .before .before .before .before .before .before .before .before .before .before .before .pre .4) (c .before .before .before .before .before .before .before .before .before .before .before .before .before .before .pre .5)),
-      c .before .before .before .before .before .before .before .before .before .before .before .before .before .before .pre .6,
-      c .before .before .before .before .before .before .before .before .before .before .before .before .before .before .pre .7,
+    let l : c .before .before .before .before .before .before .before .before .loop .i < size N = omega (arith, c .before .before .before .before .before .before .before .loop-test .taken) in
+    let t = c .before .before .before .before .before .before .before .before .loop .inv .1 in
+    let e = c .before .before .before .before .before .wide .ensures .0 ∙ c .before .before .before .before .before .before .number-at .ensures in
+    let inside : c .before .before .before .before .before .wide .result < length ns = omega (arith, settle-inside (c .before .before .before .before .before .before .before .before .before .before .before .before .before .before .before .before .before .pre .1) (c .before .before .before .before .before .before .before .before .before .before .before .before .before .before .before .before .before .pre .2) t l) in (
+      c .before .before .before .before .before .before .before .before .before .before .before .before .before .before .before .before .before .pre .0,
+      c .before .before .before .before .before .before .before .before .before .before .before .before .before .before .before .before .before .pre .1,
+      inside,
+      omega (arith, t .kept, c .before .before .before .before .before .before .before .before .before .before .before .before .before .before .before .before .before .pre .3),
+      subst (OperandsFit N (c .before .before .before .before .before .before .before .before .loop .words)) (sym e) (settle-fits (c .before .before .before .before .before .before .before .before .before .before .before .before .before .before .before .before .before .pre .1) (c .before .before .before .before .before .before .before .before .before .before .before .before .before .before .before .before .before .pre .2) t l (c .before .before .before .before .before .before .before .before .before .before .before .before .before .before .before .before .before .pre .4) (c .before .before .before .before .before .before .before .before .before .before .before .before .before .before .before .before .before .pre .5)),
+      c .before .before .before .before .before .before .before .before .before .before .before .before .before .before .before .before .before .pre .6,
+      c .before .before .before .before .before .before .before .before .before .before .before .before .before .before .before .before .before .pre .7,
+      sym (c .before .before .before .keeps-word .ensures (elementAt N (c .before .before .before .before .before .wide .result)) (c .before .before .before .before .before .before .before .before .before .before .before .before .before .before .before .before .before .pre .6 .code (c .before .before .before .before .before .wide .result) inside)) ∙ not-true (c .before .before .before .keeps-word .result) (c .before .before .if1 .taken),
     )
 
 put-number-requires : tie.Need-put-number-requires Inv-loop μ-loop
@@ -65,18 +79,26 @@ loop-less c = omega arith
 
 loop-again : tie.Need-loop-again Inv-loop μ-loop
 loop-again c =
-    let a = c .before .before .before .before .before .before .before .before .before .before .before .before .before .before .before .before .before .before .args in
+    let a = c .before .before .before .before .before .before .before .before .before .before .before .before .before .before .before .args in
     let s = a .file .now in
     let ts = a .tables .now in
     let ns = a .nodes .now in
     let N = netIn s ts ns in
     let z = size-in s ts ns in
-    let l : c .before .before .before .before .before .before .before .before .before .loop .i < size N = omega (arith, c .before .before .before .before .before .before .before .before .loop-test .taken) in
-    let t = c .before .before .before .before .before .before .before .before .before .loop .inv .1 in
-    let e = c .before .before .before .before .before .before .wide .ensures .0 ∙ c .before .before .before .before .before .before .before .number-at .ensures in
-    let x = c .before .before .before .node-word .result in
-    let more = settle-more (c .before .before .before .before .before .before .before .before .before .before .before .before .before .before .before .before .before .before .pre .1) (c .before .before .before .before .before .before .before .before .before .before .before .before .before .before .before .before .before .before .pre .2) t l x (c .before .before .before .node-word .ensures ∙ ap (nodeWord N (c .before .before .before .before .before .before .before .before .before .loop .words)) e) (omega (arith, c .before .before .before .before .before .before .before .before .before .before .before .before .before .before .before .before .before .before .pre .3)) in
-    (omega arith, subst (λ (ws : List ℕ). Settling N (a .order .now) (a .words .now) ws (c .before .before .before .before .before .before .before .before .before .loop .i + 1)) (sym (c .before .before .put-number .ensures ∙ ap (λ (v : ℕ). set (c .before .before .before .before .before .before .before .before .before .loop .words) v x) e)) more)
+    let ws = c .before .before .before .before .before .before .loop .words in
+    let l : c .before .before .before .before .before .before .loop .i < size N = omega (arith, c .before .before .before .before .before .loop-test .taken) in
+    let t = c .before .before .before .before .before .before .loop .inv .1 in
+    let e = c .before .before .before .wide .ensures .0 ∙ c .before .before .before .before .number-at .ensures in
+    let inside : c .before .before .before .wide .result < length ns = omega (arith, settle-inside (c .before .before .before .before .before .before .before .before .before .before .before .before .before .before .before .pre .1) (c .before .before .before .before .before .before .before .before .before .before .before .before .before .before .before .pre .2) t l) in
+    let told = sym (c .before .keeps-word .ensures (elementAt N (c .before .before .before .wide .result)) (c .before .before .before .before .before .before .before .before .before .before .before .before .before .before .before .pre .6 .code (c .before .before .before .wide .result) inside) ∙ ap (λ (u : ℕ). loaded (elementAt N u)) e) in (
+      omega arith,
+      ⊎-elim
+          (λ r.
+          subst (λ (x : List ℕ). Settling N (a .order .now) (a .words .now) x (c .before .before .before .before .before .before .loop .i + 1)) (sym (r .7 ∙ r .4 .ensures ∙ ap (λ (u : ℕ). set ws u (r .3 .result)) e))
+          (settle-more (c .before .before .before .before .before .before .before .before .before .before .before .before .before .before .before .pre .1) (c .before .before .before .before .before .before .before .before .before .before .before .before .before .before .before .pre .2) t l (r .3 .result) (r .3 .ensures ∙ ap (nodeWord N ws) e) (omega (arith, c .before .before .before .before .before .before .before .before .before .before .before .before .before .before .before .pre .3)) (told ∙ not-true (c .before .keeps-word .result) (r .0 .taken))))
+          (λ r. subst (λ (x : List ℕ). Settling N (a .order .now) (a .words .now) x (c .before .before .before .before .before .before .loop .i + 1)) (sym (r .1)) (settle-own (c .before .before .before .before .before .before .before .before .before .before .before .before .before .before .before .pre .1) (c .before .before .before .before .before .before .before .before .before .before .before .before .before .before .before .pre .2) t l (told ∙ not-false (c .before .keeps-word .result) (r .0 .left))))
+          (c .if1 .came),
+    )
 
 same-length : tie.Need-same-length Inv-loop μ-loop
 same-length c = c .before .loop .inv .1 .kept
@@ -98,6 +120,8 @@ evaluate-spec =
     loop-holds
     number-at-requires
     wide-requires
+    shared-slice-read-keeps-word
+    keeps-word-requires
     node-word-requires
     put-number-requires
     add-i

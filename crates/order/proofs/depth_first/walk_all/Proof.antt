@@ -14,8 +14,14 @@ Inv-loop file tables nodes steps flags₀ order₀ hint₀ codes sources stack�
 abbrev μ-loop : tie.MeasureT-loop
 μ-loop file tables nodes steps flags₀ order₀ hint₀ codes sources stack₀ met₀ placed₀ noted₀ root₀ flags order hint stack met placed noted root = length nodes - root
 
+slice-aggregate-place-free : tie.Need-slice-aggregate-place-free Inv-loop μ-loop
+slice-aggregate-place-free c = sym (length-replicate {A = ℕ} 1024 0)
+
+place-free-requires : tie.Need-place-free-requires Inv-loop μ-loop
+place-free-requires c κs = c .before .before .before .before .before .before .before .before .before .before .before .pre
+
 loop-holds : tie.Need-loop-holds Inv-loop μ-loop
-loop-holds c = (refl, refl, refl, length-replicate {A = ℕ} 1024 0, length-replicate {A = ℕ} 1024 0, c .before .before .before .before .before .before .before .before .pre .2)
+loop-holds c = (refl, refl, refl, length-replicate {A = ℕ} 1024 0, c .before .before .before .before .before .place-free .kept .1 .1 .1 .1 .1 .1 .0 ∙ length-replicate {A = ℕ} 1024 0, c .before .before .before .before .before .place-free .ensures)
 
 slice-aggregate-walk-from : tie.Need-slice-aggregate-walk-from Inv-loop μ-loop
 slice-aggregate-walk-from c = sym (c .before .before .before .before .loop .inv .3)
@@ -24,10 +30,10 @@ slice-aggregate-walk-from-2 : tie.Need-slice-aggregate-walk-from-2 Inv-loop μ-l
 slice-aggregate-walk-from-2 c = sym (c .before .before .before .before .before .loop .inv .4)
 
 walk-from-requires : tie.Need-walk-from-requires Inv-loop μ-loop
-walk-from-requires c κs = (c .before .before .before .before .before .before .before .before .before .before .before .before .before .before .before .pre .0, c .before .before .before .before .before .before .before .before .before .before .before .before .before .before .before .pre .1, c .before .before .before .before .before .loop-test .taken, omega arith, c .before .before .before .before .before .before .loop .inv .5, c .before .before .before .before .before .before .before .before .before .before .before .before .before .before .before .pre .3)
+walk-from-requires c κs = (c .before .before .before .before .before .before .before .before .before .before .before .before .before .before .before .before .before .before .before .before .before .before .before .before .pre .0, c .before .before .before .before .before .before .before .before .before .before .before .before .before .before .before .before .before .before .before .before .before .before .before .before .pre .1, c .before .before .before .before .before .loop-test .taken, omega arith, c .before .before .before .before .before .before .loop .inv .5, c .before .before .before .before .before .before .before .before .before .before .before .before .before .before .before .before .before .before .before .before .before .before .before .before .pre .3)
 
 add-root : tie.Need-add-root Inv-loop μ-loop
-add-root c = omega arith
+add-root c = omega (arith, c .before .before .before .before .before .before .before .before .before .before .before .before .before .before .before .before .before .before .before .before .before .before .before .before .before .before .before .before .before .before .before .before .before .pre .0 .few-nodes)
 
 loop-less : tie.Need-loop-less Inv-loop μ-loop
 loop-less c = omega arith
@@ -36,10 +42,10 @@ loop-again : tie.Need-loop-again Inv-loop μ-loop
 loop-again c = (c .before .before .before .before .before .before .before .before .walk-from .kept .1 .1 .1 .1 .1 .0 ∙ c .before .before .before .before .before .before .before .before .before .before .before .before .before .before .before .loop .inv .0, c .before .before .before .before .before .before .before .before .walk-from .kept .1 .1 .1 .1 .1 .1 .0 ∙ c .before .before .before .before .before .before .before .before .before .before .before .before .before .before .before .loop .inv .1, c .before .before .before .before .before .before .before .before .walk-from .kept .1 .1 .1 .1 .1 .1 .1 .1 .1 .0 ∙ c .before .before .before .before .before .before .before .before .before .before .before .before .before .before .before .loop .inv .2, c .before .before .before .before .before .before .before .before .walk-from .kept .1 .1 .1 .1 .1 .1 .1 .0 ∙ c .before .before .before .before .before .before .before .before .before .before .before .before .before .before .before .loop .inv .3, c .before .before .before .before .before .before .before .before .walk-from .kept .1 .1 .1 .1 .1 .1 .1 .1 .0 ∙ c .before .before .before .before .before .before .before .before .before .before .before .before .before .before .before .loop .inv .4, c .before .before .before .before .before .before .before .before .walk-from .ensures .1)
 
 same-length : tie.Need-same-length Inv-loop μ-loop
-same-length c = c .before .loop .inv .0
+same-length c = c .before .loop .inv .0 ∙ c .before .before .before .before .before .before .before .place-free .kept .1 .1 .1 .1 .0
 
 same-length-2 : tie.Need-same-length-2 Inv-loop μ-loop
-same-length-2 c = c .before .loop .inv .1
+same-length-2 c = c .before .loop .inv .1 ∙ c .before .before .before .before .before .before .before .place-free .kept .1 .1 .1 .1 .1 .0
 
 same-length-3 : tie.Need-same-length-3 Inv-loop μ-loop
 same-length-3 c = c .before .loop .inv .2
@@ -53,6 +59,8 @@ walk-all-spec =
     (tie.spec
     Inv-loop
     μ-loop
+    slice-aggregate-place-free
+    place-free-requires
     loop-holds
     slice-aggregate-walk-from
     slice-aggregate-walk-from-2
