@@ -1,128 +1,82 @@
 -- A row is loaded word by word, over plain values: q says which numbers have a word in it, w how wide. Assumes nothing.
 use mathlib.Core.Path.{_≡_, refl, sym, ap, subst, _∙_}
-use mathlib.Core.Logic.{_⊎_, ⊎-elim}
-use mathlib.Core.Bool.{Bool, true, false, true≢false}
+use mathlib.Core.Logic.{_⊎_, inl, inr, ⊎-elim}
+use mathlib.Core.Bool.{Bool, true, false, true≢false, _&&_}
 use mathlib.Core.List.{List}
 use Prim.Native.Nat.{ℕ, suc, _+_, _*_, _/_, _^_, _≤_, _<_}
 use native.Mathlib.Nat.{not-suc-le-zero}
 use native.Mathlib.Omega.{arith}
 use lib.ListN.{length, getD, set, length-set}
-use lib.Seq.{getD-set-same, getD-set-other, take-all}
+use lib.Seq.{getD-set-same, getD-set-other, ext-getD}
 use lib.Dec.{eqb}
-use borrow.Author.Tests.{eq-eqb}
+use borrow.Author.Tests.{eq-eqb, ne-eqb}
 use Rattle.lists.specs.Lists.{select, countBelow}
-use Rattle.lists.specs.BelowLaws.{true-or-false, and-left, and-right, eqb-true, eqb-differ, lt-suc-split, getD-listed, countBelow-lt}
+use Rattle.lists.specs.BelowLaws.{true-or-false, and-right, lt-suc-split, getD-listed, countBelow-lt, countBelow-same}
 use Rattle.lists.specs.ListsLaws.{length-select}
 use Rattle.words.specs.Words.{word}
 use Rattle.behaviour.specs.Runs.{fitting}
 use Rattle.behaviour.specs.Fitting.{fitting-select, fitting-at}
 use Rattle.behaviour.specs.Service.{wordsIn, fittingBytes}
 use Rattle.behaviour.specs.WordBytes.{length-wordsIn}
-use Rattle.evaluate.specs.SelectLaws.{count-none, count-one, select-same, select-places}
+use Rattle.evaluate.specs.SelectLaws.{Member, some-member, select-at}
 
--- ---- what the test of a row says
-
-record Fitting (q : ℕ → Bool) (w : ℕ → ℕ) (n : ℕ) (b : List ℕ) : Type 0 where
-  whole : length b ≡ 2 * countBelow q n
-  each : (v : ℕ) → v < n → q v ≡ true → word b (2 * countBelow q v) < 2 ^ w v
-
-module _ (q : ℕ → Bool) (w : ℕ → ℕ) (n : ℕ) (b : List ℕ) where
-  counted : length (select q w n) ≡ countBelow q n
-  counted = length-select q w n
-
-  -- the word of number v, and the words of all
-  word-of : length b ≡ 2 * countBelow q n → (v : ℕ) → v < n → q v ≡ true → getD (wordsIn b) (countBelow q v) 0 ≡ word b (2 * countBelow q v)
-  word-of e v h t = getD-listed (λ i. word b (2 * i)) (length b / 2) (countBelow q v) 0 (omega (arith, countBelow-lt q v n t h))
-
-  words-of : length b ≡ 2 * countBelow q n → select q (λ v. word b (2 * countBelow q v)) n ≡ wordsIn b
-  words-of e =
-      let half : length (wordsIn b) ≡ countBelow q n = omega (arith, length-wordsIn b) in
-      select-same q (λ v. word b (2 * countBelow q v)) (λ v. getD (wordsIn b) (countBelow q v) 0) n (λ v h t. sym (word-of e v h t))
-      ∙ select-places q (wordsIn b) n (omega arith) ∙ take-all (countBelow q n) (wordsIn b) (omega arith)
-
-  fitting-true : Fitting q w n b → fittingBytes (select q w n) b ≡ true
-  fitting-true f =
-      rw (eq-eqb (length b) (2 * length (select q w n)) (omega (arith, counted, f .whole)))
-      (subst (λ (l : List ℕ). fitting (select q w n) l ≡ true) (words-of (f .whole)) (fitting-select q w n (λ v. word b (2 * countBelow q v)) (f .each)))
-
-  fitting-told : fittingBytes (select q w n) b ≡ true → Fitting q w n b
-  fitting-told t = record { whole = whole; each = λ v h e. subst (λ (x : ℕ). x < 2 ^ w v) (word-of whole v h e) (fitting-at q w n (wordsIn b) rest v h e) }
-    where
-      whole : length b ≡ 2 * countBelow q n
-      whole =
-          let e : length b ≡ 2 * length (select q w n) = eqb-true (and-left (eqb (length b) (2 * length (select q w n))) (fitting (select q w n) (wordsIn b)) t) in
-          omega (arith, counted)
-
-      rest : fitting (select q w n) (wordsIn b) ≡ true
-      rest = and-right (eqb (length b) (2 * length (select q w n))) (fitting (select q w n) (wordsIn b)) t
-
-  fitting-false : (Fitting q w n b → ⊥) → false ≡ fittingBytes (select q w n) b
-  fitting-false not = ⊎-elim (λ t. absurd (not (fitting-told t))) (λ t. sym t) (true-or-false (fittingBytes (select q w n) b))
-
--- ---- the first v numbers are passed, and so many bytes read
-
-pub record Loading (q : ℕ → Bool) (w : ℕ → ℕ) (b before after : List ℕ) (v at : ℕ) : Type 0 where
-  pub read : at ≡ 2 * countBelow q v
-  pub room : at ≤ length b
+-- the numbers before the i-th that passes have their words, and no other number's word is touched
+pub record Loading (q : ℕ → Bool) (w : ℕ → ℕ) (b before after : List ℕ) (i : ℕ) : Type 0 where
   pub kept : length after ≡ length before
-  pub each : (u : ℕ) → u < v → q u ≡ true → getD after u 0 ≡ word b (2 * countBelow q u)
-  pub fit : (u : ℕ) → u < v → q u ≡ true → getD after u 0 < 2 ^ w u
+  pub each : (u : ℕ) → q u ≡ true → countBelow q u < i → getD after u 0 ≡ word b (2 * countBelow q u)
+  pub fit : (u : ℕ) → q u ≡ true → countBelow q u < i → getD after u 0 < 2 ^ w u
   pub others : (u : ℕ) → q u ≡ false → getD after u 0 ≡ getD before u 0
 
-pub load-none : (q : ℕ → Bool) (w : ℕ → ℕ) (b l : List ℕ) → Loading q w b l l 0 0
-load-none q w b l = record { read = refl; room = omega arith; kept = refl; each = λ u h. absurd (not-suc-le-zero h); fit = λ u h. absurd (not-suc-le-zero h); others = λ u t. refl }
+pub load-none : (q : ℕ → Bool) (w : ℕ → ℕ) (b l : List ℕ) → Loading q w b l l 0
+load-none q w b l = record { kept = refl; each = λ u y h. absurd (not-suc-le-zero h); fit = λ u y h. absurd (not-suc-le-zero h); others = λ u y. refl }
 
-module _ {q : ℕ → Bool} {w : ℕ → ℕ} {b before after : List ℕ} {v at : ℕ} (t : Loading q w b before after v at) where
-  -- number v has no word
-  pub load-skip : q v ≡ false → Loading q w b before after (v + 1) at
-  load-skip off = record {
-    read = t .read ∙ ap (2 *_) (sym (count-none q v off));
-    room = t .room;
-    kept = t .kept;
-    each = λ u h y. t .each u (passed u h y) y;
-    fit = λ u h y. t .fit u (passed u h y) y;
-    others = t .others;
-  }
-    where
-      passed : (u : ℕ) → u < v + 1 → q u ≡ true → u < v
-      passed u h y = ⊎-elim (λ l. l) (λ e. absurd (true≢false (sym y ∙ ap q e ∙ off))) (lt-suc-split (let l : u < suc v = omega arith in l))
-
-  -- number v has the next word
-  module _ (on : q v ≡ true) (x : ℕ) (is : x ≡ word b at) where
+module _ (q : ℕ → Bool) (w : ℕ → ℕ) (n : ℕ) (b : List ℕ) where
+  -- number v is the i-th, and x its word
+  module _ {i v x : ℕ} (m : Member q n i v) (is : x ≡ word b (2 * i)) where
     at-word : x ≡ word b (2 * countBelow q v)
-    at-word = is ∙ ap (word b) (t .read)
+    at-word = is ∙ ap (λ (k : ℕ). word b (2 * k)) (sym (m .place))
 
-    pub load-take : at + 2 ≤ length b → x < 2 ^ w v → v < length after → Loading q w b before (set after v x) (v + 1) (at + 2)
-    load-take h f r = record {
-      read = omega (arith, t .read, count-one q v on);
-      room = h;
+    pub load-take : {before after : List ℕ} → Loading q w b before after i → x < 2 ^ w v → v < length after → Loading q w b before (set after v x) (i + 1)
+    load-take {before} {after} t f r = record {
       kept = length-set after v x ∙ t .kept;
-      each = λ u l y. ⊎-elim (λ m. getD-set-other after v u x 0 (λ e. omega arith) ∙ t .each u m y)
-          (λ e. ap (λ (k : ℕ). getD (set after v x) k 0) e ∙ getD-set-same after v x 0 r ∙ at-word ∙ ap (λ (k : ℕ). word b (2 * countBelow q k)) (sym e)) (last u l);
-      fit = λ u l y. ⊎-elim (λ m. rw (getD-set-other after v u x 0 (λ e. omega arith)) (t .fit u m y))
-          (λ e. subst (λ (k : ℕ). getD (set after v x) k 0 < 2 ^ w k) (sym e) (rw (getD-set-same after v x 0 r) f)) (last u l);
-      others = λ u y. getD-set-other after v u x 0 (λ e. true≢false (sym on ∙ ap q (sym e) ∙ y)) ∙ t .others u y;
+      each = λ u y l. ⊎-elim (λ k. getD-set-other after v u x 0 (λ e. omega (arith, k, ap (countBelow q) e, m .place)) ∙ t .each u y k)
+          (λ e. ap (λ (k : ℕ). getD (set after v x) k 0) e ∙ getD-set-same after v x 0 r ∙ at-word ∙ ap (λ (k : ℕ). word b (2 * countBelow q k)) (sym e)) (last u y l);
+      fit = λ u y l. ⊎-elim (λ k. rw (getD-set-other after v u x 0 (λ e. omega (arith, k, ap (countBelow q) e, m .place))) (t .fit u y k))
+          (λ e. subst (λ (k : ℕ). getD (set after v x) k 0 < 2 ^ w k) (sym e) (rw (getD-set-same after v x 0 r) f)) (last u y l);
+      others = λ u y. getD-set-other after v u x 0 (λ e. true≢false (sym (m .on) ∙ ap q (sym e) ∙ y)) ∙ t .others u y;
     }
       where
-        last : (u : ℕ) → u < v + 1 → (u < v) ⊎ (u ≡ v)
-        last u l = lt-suc-split (let m : u < suc v = omega arith in m)
+        last : (u : ℕ) → q u ≡ true → countBelow q u < i + 1 → (countBelow q u < i) ⊎ (u ≡ v)
+        last u y l = ⊎-elim (λ k. inl k) (λ e. inr (countBelow-same q u v y (m .on) (e ∙ sym (m .place)))) (lt-suc-split (let k : countBelow q u < suc i = omega arith in k))
 
     -- it does not fit
-    pub load-wide : (n : ℕ) → v < n → 2 ^ w v ≤ x → false ≡ fittingBytes (select q w n) b
-    load-wide n h f = fitting-false q w n b (λ g. omega (arith, g .each v h on, at-word))
+    pub load-wide : length b ≡ 2 * countBelow q n → 2 ^ w v ≤ x → fittingBytes (select q w n) b ≡ false
+    load-wide h f = ⊎-elim (λ t. absurd (omega (arith, fits t, at-word, there))) (λ t. t) (true-or-false (fittingBytes (select q w n) b))
+      where
+        there : getD (wordsIn b) (countBelow q v) 0 ≡ word b (2 * countBelow q v)
+        there = getD-listed (λ j. word b (2 * j)) (length b / 2) (countBelow q v) 0 (omega (arith, countBelow-lt q v n (m .on) (m .low)))
 
-  -- there is no next word
-  pub load-short : q v ≡ true → (n : ℕ) → v < n → length b < at + 2 → false ≡ fittingBytes (select q w n) b
-  load-short on n h l = fitting-false q w n b (λ g. omega (arith, g .whole, t .read, countBelow-lt q v n on h))
+        fits : fittingBytes (select q w n) b ≡ true → getD (wordsIn b) (countBelow q v) 0 < 2 ^ w v
+        fits t = fitting-at q w n (wordsIn b) (and-right (eqb (length b) (2 * length (select q w n))) (fitting (select q w n) (wordsIn b)) t) v (m .low) (m .on)
 
--- ---- all numbers are passed: the row is loaded where no byte is left
+  -- by the row's length
+  pub load-other : (length b ≡ 2 * countBelow q n → ⊥) → fittingBytes (select q w n) b ≡ false
+  load-other d = rw (ne-eqb (length b) (2 * length (select q w n)) (λ e. d (omega (arith, length-select q w n))))
 
-module _ {q : ℕ → Bool} {w : ℕ → ℕ} {b before after : List ℕ} {n at : ℕ} (t : Loading q w b before after n at) where
-  pub load-test : eqb (length b) at ≡ fittingBytes (select q w n) b
-  load-test = ⊎-elim (λ y. y ∙ sym (fitting-true q w n b (all (eqb-true y)))) (λ y. y ∙ fitting-false q w n b (λ g. let e : length b ≡ at = omega (arith, g .whole, t .read) in eqb-differ y e)) (true-or-false (eqb (length b) at))
-    where
-      all : length b ≡ at → Fitting q w n b
-      all e = record { whole = e ∙ t .read; each = λ v h y. subst (λ (x : ℕ). x < 2 ^ w v) (t .each v h y) (t .fit v h y) }
+  module _ (h : length b ≡ 2 * countBelow q n) {before after : List ℕ} (t : Loading q w b before after (countBelow q n)) where
+    pub load-words : select q (λ v. getD after v 0) n ≡ wordsIn b
+    load-words =
+        ext-getD 0 (select q (λ v. getD after v 0) n) (wordsIn b) (omega (arith, length-wordsIn b, length-select q (λ v. getD after v 0) n)) (λ i l. at i (omega (arith, length-select q (λ v. getD after v 0) n)))
+      where
+        at : (i : ℕ) → i < countBelow q n → getD (select q (λ v. getD after v 0) n) i 0 ≡ getD (wordsIn b) i 0
+        at i l =
+            let r = some-member q n i l in
+            let p = r .1 .place in
+            select-at (λ v. getD after v 0) 0 (r .1) ∙ t .each (r .0) (r .1 .on) (omega arith)
+            ∙ ap (λ (k : ℕ). word b (2 * k)) p ∙ sym (getD-listed (λ j. word b (2 * j)) (length b / 2) i 0 (omega arith))
 
-  pub load-row : length b ≡ at → select q (λ v. getD after v 0) n ≡ wordsIn b
-  load-row e = select-same q (λ v. getD after v 0) (λ v. word b (2 * countBelow q v)) n (t .each) ∙ words-of q w n b (e ∙ t .read)
+    pub load-fits : fittingBytes (select q w n) b ≡ true
+    load-fits =
+        rw (eq-eqb (length b) (2 * length (select q w n)) (omega (arith, length-select q w n)))
+        (subst (λ (l : List ℕ). fitting (select q w n) l ≡ true) load-words
+        (fitting-select q w n (λ v. getD after v 0) (λ v l y. t .fit v y (countBelow-lt q v n y l))))

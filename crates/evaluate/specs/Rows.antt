@@ -20,6 +20,10 @@ inRow State e = holdsWord e
 abbrev pub rowTest : Row → Net → ℕ → Bool
 rowTest row N v = inRow row (elementAt N v)
 
+-- the nodes that have a word in a row, by number
+abbrev pub rowMembers : Row → Net → List ℕ
+rowMembers row N = select (rowTest row N) (λ v. v) (size N)
+
 -- the widths of a row's words
 abbrev pub rowWidths : Row → Net → List ℕ
 rowWidths row N = select (rowTest row N) (λ v. widthAt N v) (size N)

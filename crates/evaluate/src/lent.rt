@@ -1,13 +1,14 @@
 // The rows of words that a host lends, over the columns of the nodes.
 use super::Row;
 use super::kind_in_row;
+use index::wide;
 use words::fits_width;
 use words::word_at;
 ghost use mathlib.Core.Path.{_≡_};
 ghost use mathlib.Core.Bool.{true};
 ghost use Prim.Native.Nat.{_<_, _≤_};
-ghost use lib.ListN.{length};
-ghost use Rattle.lists.specs.Lists.{countBelow};
+ghost use lib.ListN.{length, take};
+ghost use Rattle.lists.specs.Lists.{one};
 ghost use Rattle.netlist.specs.declared.Element.{Element};
 ghost use Rattle.netlist.specs.NodeField.{kindOf};
 ghost use Rattle.netlist.specs.Checks.{WellFormed};
@@ -16,7 +17,7 @@ ghost use Rattle.netlist.specs.File.{netIn};
 ghost use Rattle.nodes.specs.Code.{codeOf};
 ghost use Rattle.columns.specs.Columns.{Columns, Widths};
 ghost use Rattle.behaviour.specs.Service.{fittingBytes};
-ghost use Rattle.evaluate.specs.Rows.{rowTest, rowWidths, Loaded};
+ghost use Rattle.evaluate.specs.Rows.{rowTest, rowMembers, rowWidths, Loaded};
 
 // The kind of an element of a code.
 fn kind_of_code(code: u8) -> u8
@@ -41,67 +42,68 @@ pub fn in_row_by(
     kind_in_row(row, kind_of_code(codes[v]))
 }
 
-// How many words a row has.
-pub fn count_row_by(
+// 1 for what counts, and 0 for what does not.
+fn ones(counts: bool) -> usize
+    ensures { λ r. ⌜ r ≡ one counts ⌝ }
+{
+    if counts { 1 } else { 0 }
+}
+
+// The nodes that have a word in a row, its members, into a work area; gives how many. Each number is put, and the next one over it unless it counts:
+// the members stand among the others in no pattern, so there is no branch on them.
+pub fn row_members(
     file: &[u8],
     tables: &[u16],
     nodes: &[u16],
     row: Row,
+    members: &mut [u16],
     codes: &[u8],
     sources: &[u16],
 ) -> usize
-    requires { ⌜ Found (now file) (now tables) (now nodes) × Columns (netIn (now file) (now tables) (now nodes)) (now codes) (now sources) (length (now nodes)) ⌝ }
-    ensures { λ r. ⌜ (r ≡ countBelow (rowTest row (netIn (now (file .entry)) (now (tables .entry)) (now (nodes .entry)))) (length (now (nodes .entry)))) × (r ≤ 1024) ⌝ }
+    requires { ⌜ Found (now file) (now tables) (now nodes) × (1024 ≤ length (now members))
+        × Columns (netIn (now file) (now tables) (now nodes)) (now codes) (now sources) (length (now nodes)) ⌝ }
+    ensures { λ r. ⌜ (take r (now (members .exit)) ≡ rowMembers row (netIn (now (file .entry)) (now (tables .entry)) (now (nodes .entry)))) × (r ≤ length (now (members .exit))) ⌝ }
 {
     let mut count: usize = 0;
     let mut v: usize = 0;
     while v < nodes.len() {
-        if in_row_by(file, tables, nodes, row, v, codes, sources) {
-            count = count + 1;
-            v = v + 1;
-        } else {
-            v = v + 1;
-        }
+        members[count] = v as u16;
+        count = count + ones(in_row_by(file, tables, nodes, row, v, codes, sources));
+        v = v + 1;
     }
     count
 }
 
-// Loads a lent row into the words of its nodes, where it has just one fitting word for each of them. After `false` nothing is said of the words, a work area.
-pub fn load_row_by(
+// Loads a lent row into the words of its members, where it has just one fitting word for each of them. After `false` nothing is said of the words, a work area.
+pub fn load_row(
     file: &[u8],
     tables: &[u16],
     nodes: &[u16],
     row: Row,
     bytes: &[u8],
+    members: &[u16],
     words: &mut [u16],
-    codes: &[u8],
-    sources: &[u16],
     widths: &[u8],
 ) -> bool
     requires { ⌜ Found (now file) (now tables) (now nodes) × WellFormed (netIn (now file) (now tables) (now nodes)) × (length (now nodes) ≤ length (now words))
-        × Columns (netIn (now file) (now tables) (now nodes)) (now codes) (now sources) (length (now nodes))
+        × (now members ≡ rowMembers row (netIn (now file) (now tables) (now nodes)))
         × Widths (netIn (now file) (now tables) (now nodes)) (now widths) (length (now nodes)) ⌝ }
     ensures { λ r. ⌜ (r ≡ fittingBytes (rowWidths row (netIn (now (file .entry)) (now (tables .entry)) (now (nodes .entry)))) (now (bytes .entry)))
         × (r ≡ true → Loaded row (netIn (now (file .entry)) (now (tables .entry)) (now (nodes .entry))) (now (bytes .entry)) (now (words .entry)) (now (words .exit))) ⌝ }
 {
-    let mut at: usize = 0;
-    let mut v: usize = 0;
-    while v < nodes.len() {
-        if in_row_by(file, tables, nodes, row, v, codes, sources) {
-            if bytes.len() < at + 2 {
-                return false;
-            }
-            let word = word_at(bytes, at);
-            if fits_width(word, widths[v]) {
-                words[v] = word;
-                at = at + 2;
-                v = v + 1;
-            } else {
-                return false;
-            }
+    if bytes.len() != 2 * members.len() {
+        return false;
+    }
+    let mut i: usize = 0;
+    while i < members.len() {
+        let v = wide(members[i]);
+        let word = word_at(bytes, 2 * i);
+        if fits_width(word, widths[v]) {
+            words[v] = word;
+            i = i + 1;
         } else {
-            v = v + 1;
+            return false;
         }
     }
-    bytes.len() == at
+    true
 }

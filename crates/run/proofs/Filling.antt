@@ -1,78 +1,68 @@
--- A row of words is written word by word, two bytes each: q says which numbers have a word in it, h which. Assumes nothing.
+-- A list of words is written word by word, two bytes each: h says which word a number has. Assumes nothing.
 use mathlib.Core.Path.{_≡_, refl, sym, ap, ap₂, _∙_}
-use mathlib.Core.Bool.{Bool, true, false}
-use mathlib.Core.List.{List, [], _∷_, _++_, append-nil}
+use mathlib.Core.List.{List, [], _∷_, _++_, map, append-nil}
 use Prim.Native.Nat.{ℕ, _+_, _*_, _/_, _%_, _≤_, _<_}
 use native.Mathlib.Numerals.{add-one}
 use native.Mathlib.Omega.{arith}
-use lib.ListN.{length, set, take, drop, length-append, length-drop}
-use lib.Seq.{sets-eq, take-at, drop-drop, drop-append-add, drop-length}
-use Rattle.lists.specs.Lists.{select, countBelow}
-use Rattle.lists.specs.BelowLaws.{countBelow-lt}
-use Rattle.lists.specs.ListsLaws.{length-select, concatMap-append}
+use lib.ListN.{length, getD, set, take, drop, length-append, length-drop, length-map}
+use lib.Seq.{sets-eq, take-at, take-suc, take-length, drop-drop, drop-append-add, drop-length, length-take-le}
+use Rattle.lists.specs.BelowLaws.{getD-map-lt}
+use Rattle.lists.specs.ListsLaws.{concatMap-append}
 use Rattle.words.specs.Words.{bytes}
 use Rattle.behaviour.specs.Service.{bytesOf}
 use Rattle.behaviour.specs.WordBytes.{length-bytes}
-use Rattle.evaluate.specs.SelectLaws.{count-none, count-one, select-none, select-one}
 
--- the words of the first v numbers are written; the row has room for those of n
-pub record Filling (q : ℕ → Bool) (h : ℕ → ℕ) (n : ℕ) (before after : List ℕ) (v at : ℕ) : Type 0 where
-  pub room : length before ≡ 2 * countBelow q n
-  pub written : at ≡ 2 * countBelow q v
-  pub low : at ≤ length before
-  pub holds : after ≡ bytesOf (select q h v) ++ drop at before
+-- the words of the first i numbers of l are written; there is room for those of all
+pub record Filling (h : ℕ → ℕ) (l before after : List ℕ) (i : ℕ) : Type 0 where
+  pub room : length before ≡ 2 * length l
+  pub low : i ≤ length l
+  pub holds : after ≡ bytesOf (take i (map h l)) ++ drop (2 * i) before
 
-pub fill-none : {q : ℕ → Bool} {h : ℕ → ℕ} {n : ℕ} {b : List ℕ} → length b ≡ 2 * countBelow q n → Filling q h n b b 0 0
-fill-none e = record { room = e; written = refl; low = omega arith; holds = refl }
+pub fill-none : {h : ℕ → ℕ} {l b : List ℕ} → length b ≡ 2 * length l → Filling h l b b 0
+fill-none e = record { room = e; low = omega arith; holds = refl }
 
-module _ {q : ℕ → Bool} {h : ℕ → ℕ} {n : ℕ} {before after : List ℕ} {v at : ℕ} (t : Filling q h n before after v at) where
-  done : length (bytesOf (select q h v)) ≡ at
-  done = omega (arith, length-bytes (select q h v), length-select q h v, t .written)
+module _ {h : ℕ → ℕ} {l before after : List ℕ} {i : ℕ} (t : Filling h l before after i) where
+  done : length (bytesOf (take i (map h l))) ≡ 2 * i
+  done = omega (arith, length-bytes (take i (map h l)), length-take-le i (map h l) (omega (arith, length-map l h)))
 
   pub fill-kept : length after ≡ length before
-  fill-kept = ap length (t .holds) ∙ length-append (bytesOf (select q h v)) (drop at before) ∙ omega (arith, done, length-drop at before, t .low)
+  fill-kept = ap length (t .holds) ∙ length-append (bytesOf (take i (map h l))) (drop (2 * i) before) ∙ omega (arith, done, length-drop (2 * i) before)
 
-  pub fill-all : v ≡ n → after ≡ bytesOf (select q h n)
+  pub fill-all : i ≡ length l → after ≡ bytesOf (map h l)
   fill-all e =
-      let end : at ≡ length before = omega (arith, t .written, t .room, ap (countBelow q) e) in
-      t .holds ∙ ap₂ (λ (k j : ℕ). bytesOf (select q h k) ++ drop j before) e end ∙ ap (λ (l : List ℕ). bytesOf (select q h n) ++ l) (drop-length before) ∙ append-nil (bytesOf (select q h n))
+      let n : i ≡ length (map h l) = omega (arith, length-map l h) in
+      let m : 2 * i ≡ length before = omega arith in
+      t .holds ∙ ap₂ (λ (k j : ℕ). bytesOf (take k (map h l)) ++ drop j before) n m
+      ∙ ap₂ (λ (x y : List ℕ). bytesOf x ++ y) (take-length (map h l)) (drop-length before) ∙ append-nil (bytesOf (map h l))
 
-  -- number v has no word
-  pub fill-skip : q v ≡ false → Filling q h n before after (v + 1) at
-  fill-skip off = record {
-    room = t .room;
-    written = t .written ∙ ap (2 *_) (sym (count-none q v off));
-    low = t .low;
-    holds = t .holds ∙ ap (λ (l : List ℕ). bytesOf l ++ drop at before) (sym (select-none q h v off));
-  }
+  module _ (more : i < length l) where
+    pub fill-room : 2 * i + 1 < length after
+    fill-room = omega (arith, fill-kept)
 
-  module _ (on : q v ≡ true) (l : v < n) where
-    fits : at + 2 ≤ length before
-    fits = omega (arith, t .written, t .room, countBelow-lt q v n on l)
+    front : take (2 * i) after ≡ bytesOf (take i (map h l))
+    front = ap (take (2 * i)) (t .holds) ∙ take-at (bytesOf (take i (map h l))) (drop (2 * i) before) (2 * i) done
 
-    pub fill-room : at + 1 < length after
-    fill-room = omega (arith, fits, fill-kept)
-
-    -- its word is the next
-    front : take at after ≡ bytesOf (select q h v)
-    front = ap (take at) (t .holds) ∙ take-at (bytesOf (select q h v)) (drop at before) at done
-
-    back : drop (at + 2) after ≡ drop (at + 2) before
+    back : drop (2 * i + 2) after ≡ drop (2 * i + 2) before
     back =
-        ap (drop (at + 2)) (t .holds) ∙ ap (λ (k : ℕ). drop (k + 2) (bytesOf (select q h v) ++ drop at before)) (sym done)
-        ∙ drop-append-add (bytesOf (select q h v)) (drop at before) 2 ∙ drop-drop 2 at before
+        ap (drop (2 * i + 2)) (t .holds) ∙ ap (λ (k : ℕ). drop (k + 2) (bytesOf (take i (map h l)) ++ drop (2 * i) before)) (sym done)
+        ∙ drop-append-add (bytesOf (take i (map h l))) (drop (2 * i) before) 2 ∙ drop-drop 2 (2 * i) before
 
-    more : (x : ℕ) → x ≡ h v → bytesOf (select q h (v + 1)) ≡ bytesOf (select q h v) ++ bytes x
-    more x is = ap bytesOf (select-one q h v on) ∙ concatMap-append bytes (select q h v) (h v ∷ []) ∙ ap (λ (k : ℕ). bytesOf (select q h v) ++ bytes k) (sym is)
-
-    pub fill-put : (x : ℕ) → x ≡ h v → Filling q h n before (set (set after at (x / 256)) (at + 1) (x % 256)) (v + 1) (at + 2)
-    fill-put x is = record {
+    -- number v is the i-th, and x its word
+    pub fill-put : {v : ℕ} → v ≡ getD l i 0 → (x : ℕ) → x ≡ h v → Filling h l before (set (set after (2 * i) (x / 256)) (2 * i + 1) (x % 256)) (i + 1)
+    fill-put at x is = record {
       room = t .room;
-      written = omega (arith, t .written, count-one q v on);
-      low = fits;
+      low = omega arith;
       holds =
-          ap (λ (k : ℕ). set (set after at (x / 256)) k (x % 256)) (add-one at)
-          ∙ sets-eq (bytes x) after at (let r = fill-room in omega arith)
+          ap (λ (k : ℕ). set (set after (2 * i) (x / 256)) k (x % 256)) (add-one (2 * i))
+          ∙ sets-eq (bytes x) after (2 * i) (let r = fill-room in omega arith)
           ∙ ap₂ (λ (a b : List ℕ). a ++ bytes x ++ b) front back
-          ∙ ap (λ (l : List ℕ). l ++ drop (at + 2) before) (sym (more x is));
+          ∙ ap₂ (λ (a : List ℕ) (k : ℕ). a ++ drop k before) (sym next) (let e : 2 * i + 2 ≡ 2 * (i + 1) = omega arith in e);
     }
+      where
+        word-is : getD (map h l) i 0 ≡ x
+        word-is = getD-map-lt h l i 0 0 more ∙ sym (is ∙ ap h at)
+
+        next : bytesOf (take (i + 1) (map h l)) ≡ bytesOf (take i (map h l)) ++ bytes x
+        next =
+            ap (λ (k : ℕ). bytesOf (take k (map h l))) (add-one i) ∙ ap bytesOf (take-suc (map h l) i 0 (omega (arith, length-map l h)))
+            ∙ concatMap-append bytes (take i (map h l)) (getD (map h l) i 0 ∷ []) ∙ ap (λ (k : ℕ). bytesOf (take i (map h l)) ++ bytes k) word-is

@@ -1,20 +1,20 @@
 -- Rows that were loaded one after the other, and then evaluated: the words of the run. Assumes nothing.
 use mathlib.Core.Path.{_≡_, refl, sym, ap, ap₂, subst, _∙_}
 use mathlib.Core.Bool.{true, false, false≢true}
-use mathlib.Core.List.{List}
+use mathlib.Core.List.{List, map}
 use Prim.Native.Nat.{ℕ, _^_, _<_}
 use lib.ListN.{getD}
-use Rattle.netlist.specs.Net.{Net, size, elementAt, widthAt, source, isInput, isOutput, holdsWord, outputsOf, Sourced}
+use Rattle.netlist.specs.Net.{Net, size, elementAt, widthAt, source, isInput, holdsWord, outputsOf, Sourced}
 use Rattle.netlist.specs.Checks.{WellFormed}
 use Rattle.netlist.specs.declared.Element.{Element}
 use Rattle.netlist.specs.declared.Element.the-variants.{Input, Output, Register, Async, Clocked, Gate}
 use Rattle.behaviour.specs.Run.{holds-next, contentsNow, words, nextState, runOutputs, runState}
 use Rattle.behaviour.specs.Service.{wordsIn}
-use Rattle.evaluate.specs.SelectLaws.{select-same}
-use Rattle.evaluate.specs.Rows.{rowTest, rowOf, RowFits, Loaded}
+use Rattle.evaluate.specs.SelectLaws.{select-same, members-map}
+use Rattle.evaluate.specs.Rows.{rowTest, rowMembers, rowOf, RowFits, Loaded}
 use Rattle.evaluate.specs.Clock.{clockWords, Evaluated}
 use Rattle.evaluate.specs.Settling.{clock-fits}
-use Rattle.evaluate.specs.declared.Row.the-variants.{Inputs, State}
+use Rattle.evaluate.specs.declared.Row.the-variants.{Inputs, Outputs, State}
 use Rattle.run.specs.Next.{WordsFit}
 use Rattle.run.proofs.NextWords.{holder-reads}
 
@@ -54,9 +54,11 @@ module _ {N : Net} {st ins w₀ w₁ w₂ : List ℕ} (a : Loaded Inputs N ins w
     pub run-fits : WordsFit N w₃
     run-fits v h = subst (λ (x : ℕ). x < 2 ^ widthAt N v) (sym (e .each v h)) (clock-fits N wf w₂ inputs-fit (b .fit) v h)
 
-    pub run-outputs : outputsOf N (λ v. getD w₃ v 0) ≡ runOutputs N (wordsIn st) (wordsIn ins)
+    pub run-outputs : {m : List ℕ} → m ≡ rowMembers Outputs N → map (λ v. getD w₃ v 0) m ≡ runOutputs N (wordsIn st) (wordsIn ins)
     unfolding outputsOf runOutputs
-    run-outputs = select-same (λ v. isOutput (elementAt N v)) (λ v. getD w₃ v 0) (λ v. getD (words N (wordsIn st) (wordsIn ins)) v 0) (size N) (λ v h t. run-words v h)
+    run-outputs o =
+        members-map (rowTest Outputs N) (size N) o (λ v. getD w₃ v 0)
+        ∙ select-same (rowTest Outputs N) (λ v. getD w₃ v 0) (λ v. getD (words N (wordsIn st) (wordsIn ins)) v 0) (size N) (λ v h t. run-words v h)
 
     pub run-state : nextState N (wordsIn st) w₃ ≡ runState N (wordsIn st) (wordsIn ins)
     unfolding nextState runState Sourced

@@ -6,7 +6,6 @@ use Prim.Native.Nat.{ℕ, _*_}
 use native.Mathlib.Omega.{arith}
 use lib.ListN.{length}
 use borrow.Author.Tests.{eq-eqb, ne-eqb}
-use Rattle.lists.specs.Lists.{countBelow}
 use Rattle.lists.specs.BelowLaws.{and-left, eqb-true}
 use Rattle.lists.specs.ListsLaws.{length-select}
 use Rattle.netlist.specs.Net.{Net, size, widthAt}
@@ -14,7 +13,8 @@ use Rattle.netlist.specs.declared.Answer.the-variants.{Accepted, Refused}
 use Rattle.behaviour.specs.Run.{resetState, runOutputs, runState}
 use Rattle.behaviour.specs.Runs.{inputWidths, outputWidths, stateWidths, fitting}
 use Rattle.behaviour.specs.Service.{bytesOf, wordsIn, roomFor, fittingBytes, Filled, resetNet, Ran, runNet}
-use Rattle.evaluate.specs.Rows.{rowTest, rowWidths}
+use Rattle.evaluate.specs.Rows.{rowTest, rowMembers, rowWidths}
+use Rattle.evaluate.specs.SelectLaws.{members-count}
 use Rattle.evaluate.specs.declared.Row.{Row}
 use Rattle.evaluate.specs.declared.Row.the-variants.{Inputs, Outputs, State}
 
@@ -27,24 +27,20 @@ ran e = (sym (ap (λ (r : Ran). r .answer) e), sym (ap (λ (r : Ran). r .state) 
 
 -- ---- a row's length
 
-module _ (N : Net) {n k : ℕ} (z : size N ≡ n) (row : Row) (c : k ≡ countBelow (rowTest row N) n) (b : List ℕ) where
+module _ (N : Net) (row : Row) {members : List ℕ} (e : members ≡ rowMembers row N) {k : ℕ} (n : k ≡ length members) (b : List ℕ) where
   words : length (rowWidths row N) ≡ k
-  words = length-select (rowTest row N) (λ v. widthAt N v) (size N) ∙ ap (countBelow (rowTest row N)) z ∙ sym c
+  words = length-select (rowTest row N) (λ v. widthAt N v) (size N) ∙ sym (n ∙ members-count (rowTest row N) (size N) e)
 
   pub row-room : length b ≡ 2 * k → roomFor (rowWidths row N) b ≡ true
-  row-room e = eq-eqb (length b) (2 * length (rowWidths row N)) (omega (arith, words))
+  row-room h = eq-eqb (length b) (2 * length (rowWidths row N)) (omega (arith, words))
 
   pub row-other : (length b ≡ 2 * k → ⊥) → roomFor (rowWidths row N) b ≡ false
-  row-other d = ne-eqb (length b) (2 * length (rowWidths row N)) (λ e. d (omega (arith, words)))
+  row-other d = ne-eqb (length b) (2 * length (rowWidths row N)) (λ h. d (omega (arith, words)))
 
--- what the test of a row's length says
-pub row-length : (N : Net) (row : Row) (b : List ℕ) → roomFor (rowWidths row N) b ≡ true → length b ≡ 2 * countBelow (rowTest row N) (size N)
-row-length N row b t =
-    let e : length b ≡ 2 * length (rowWidths row N) = eqb-true t in
-    omega (arith, length-select (rowTest row N) (λ v. widthAt N v) (size N))
-
-pub fitting-room : (ws b : List ℕ) → fittingBytes ws b ≡ true → roomFor ws b ≡ true
-fitting-room ws b t = and-left (roomFor ws b) (fitting ws (wordsIn b)) t
+  pub row-length : fittingBytes (rowWidths row N) b ≡ true → length b ≡ 2 * k
+  row-length t =
+      let h : length b ≡ 2 * length (rowWidths row N) = eqb-true (and-left (roomFor (rowWidths row N) b) (fitting (rowWidths row N) (wordsIn b)) t) in
+      omega (arith, words)
 
 -- ---- reset
 

@@ -3,9 +3,8 @@ use areas::number_at;
 use checks::open_columns;
 use evaluate::Row;
 use evaluate::evaluate;
-use evaluate::lent::count_row_by;
-use evaluate::lent::in_row_by;
-use evaluate::lent::load_row_by;
+use evaluate::lent::load_row;
+use evaluate::lent::row_members;
 use evaluate::memory_word;
 use index::node;
 use index::wide;
@@ -14,17 +13,18 @@ use netlist::Element;
 use netlist::Scanned;
 ghost use mathlib.Core.Path.{_≡_};
 ghost use mathlib.Core.Bool.{true};
-ghost use Prim.Native.Nat.{_+_, _/_, _%_, _<_};
+ghost use mathlib.Core.List.{map};
+ghost use Prim.Native.Nat.{_+_, _*_, _/_, _%_, _<_};
 ghost use lib.ListN.{length, getD, set};
-ghost use Rattle.netlist.specs.Net.{inClock, outputsOf};
+ghost use Rattle.netlist.specs.Net.{inClock};
 ghost use Rattle.netlist.specs.Checks.{WellFormed};
 ghost use Rattle.netlist.specs.ScanLaws.{Found};
 ghost use Rattle.netlist.specs.File.{netIn};
 ghost use Rattle.columns.specs.Columns.{Columns, Widths};
 ghost use Rattle.order.specs.Order.{Complete};
 ghost use Rattle.behaviour.specs.Run.{holds-first, resetState, nextState};
-ghost use Rattle.behaviour.specs.Service.{bytesOf, wordsIn, roomFor, resetNet, resetFile, runNet, runFile};
-ghost use Rattle.evaluate.specs.Rows.{rowTest, rowWidths};
+ghost use Rattle.behaviour.specs.Service.{bytesOf, wordsIn, resetNet, resetFile, runNet, runFile};
+ghost use Rattle.evaluate.specs.Rows.{rowTest, rowMembers};
 ghost use Rattle.run.specs.Next.{nextWord, WordsFit};
 
 // Writes a word, high byte first.
@@ -53,31 +53,17 @@ pub fn reset_word(e: Element) -> u16
 }
 
 // Fills a state with the reset words.
-fn store_reset(
-    file: &[u8],
-    tables: &[u16],
-    nodes: &[u16],
-    state: &mut [u8],
-    codes: &[u8],
-    sources: &[u16],
-)
+fn store_reset(file: &[u8], tables: &[u16], nodes: &[u16], members: &[u16], state: &mut [u8])
     requires { ⌜ Found (now file) (now tables) (now nodes)
-        × (roomFor (rowWidths Row.State (netIn (now file) (now tables) (now nodes))) (now state) ≡ true)
-        × Columns (netIn (now file) (now tables) (now nodes)) (now codes) (now sources) (length (now nodes)) ⌝ }
+        × (now members ≡ rowMembers Row.State (netIn (now file) (now tables) (now nodes))) × (length (now state) ≡ 2 * length (now members)) ⌝ }
     ensures { λ _. ⌜ now (state .exit) ≡ bytesOf (resetState (netIn (now (file .entry)) (now (tables .entry)) (now (nodes .entry)))) ⌝ }
 {
-    let mut at: usize = 0;
-    let mut v: usize = 0;
-    while v < nodes.len() {
-        if in_row_by(file, tables, nodes, Row::State, v, codes, sources) {
-            let x = node(file, tables, nodes, v);
-            let e = x.element;
-            put_word(state, at, reset_word(e));
-            at = at + 2;
-            v = v + 1;
-        } else {
-            v = v + 1;
-        }
+    let mut i: usize = 0;
+    while i < members.len() {
+        let x = node(file, tables, nodes, wide(members[i]));
+        let e = x.element;
+        put_word(state, 2 * i, reset_word(e));
+        i = i + 1;
     }
 }
 
@@ -95,8 +81,18 @@ fn reset_opened(
     ensures { λ r. ⌜ (r ≡ resetNet (netIn (now (file .entry)) (now (tables .entry)) (now (nodes .entry))) (now (state .entry)) .answer)
         × (now (state .exit) ≡ resetNet (netIn (now (file .entry)) (now (tables .entry)) (now (nodes .entry))) (now (state .entry)) .state) ⌝ }
 {
-    if state.len() == 2 * count_row_by(file, tables, nodes, Row::State, codes, sources) {
-        store_reset(file, tables, nodes, state, codes, sources);
+    let mut members = [0u16; 1024];
+    let count = row_members(
+        file,
+        tables,
+        nodes,
+        Row::State,
+        &mut members,
+        codes,
+        sources,
+    );
+    if state.len() == 2 * count {
+        store_reset(file, tables, nodes, &members[..count], state);
         Answer::Accepted(state.len())
     } else {
         Answer::Refused(16, 65535)
@@ -133,59 +129,39 @@ fn store_state(
     file: &[u8],
     tables: &[u16],
     nodes: &[u16],
+    members: &[u16],
     words: &[u16],
     state: &mut [u8],
     codes: &[u8],
     sources: &[u16],
 )
     requires { ⌜ Found (now file) (now tables) (now nodes) × WellFormed (netIn (now file) (now tables) (now nodes))
+        × (now members ≡ rowMembers Row.State (netIn (now file) (now tables) (now nodes))) × (length (now state) ≡ 2 * length (now members))
         × WordsFit (netIn (now file) (now tables) (now nodes)) (now words)
-        × (roomFor (rowWidths Row.State (netIn (now file) (now tables) (now nodes))) (now state) ≡ true)
         × Columns (netIn (now file) (now tables) (now nodes)) (now codes) (now sources) (length (now nodes)) ⌝ }
     ensures { λ _. ⌜ now (state .exit) ≡ bytesOf (nextState (netIn (now (file .entry)) (now (tables .entry)) (now (nodes .entry))) (wordsIn (now (state .entry))) (now (words .entry))) ⌝ }
 {
-    let mut at: usize = 0;
-    let mut u: usize = 0;
-    while u < nodes.len() {
-        if in_row_by(file, tables, nodes, Row::State, u, codes, sources) {
-            put_word(
-                state,
-                at,
-                next_word(file, tables, nodes, u, words, codes, sources),
-            );
-            at = at + 2;
-            u = u + 1;
-        } else {
-            u = u + 1;
-        }
+    let mut i: usize = 0;
+    while i < members.len() {
+        let v = wide(members[i]);
+        put_word(
+            state,
+            2 * i,
+            next_word(file, tables, nodes, v, words, codes, sources),
+        );
+        i = i + 1;
     }
 }
 
-// Writes the words of the output ports.
-fn store_outputs(
-    file: &[u8],
-    tables: &[u16],
-    nodes: &[u16],
-    words: &[u16],
-    outputs: &mut [u8],
-    codes: &[u8],
-    sources: &[u16],
-)
-    requires { ⌜ Found (now file) (now tables) (now nodes)
-        × (roomFor (rowWidths Row.Outputs (netIn (now file) (now tables) (now nodes))) (now outputs) ≡ true)
-        × Columns (netIn (now file) (now tables) (now nodes)) (now codes) (now sources) (length (now nodes)) ⌝ }
-    ensures { λ _. ⌜ now (outputs .exit) ≡ bytesOf (outputsOf (netIn (now (file .entry)) (now (tables .entry)) (now (nodes .entry))) (λ v. getD (now (words .entry)) v 0)) ⌝ }
+// Writes the words of some nodes.
+fn store_words(members: &[u16], words: &[u16], out: &mut [u8])
+    requires { ⌜ length (now out) ≡ 2 * length (now members) ⌝ }
+    ensures { λ _. ⌜ now (out .exit) ≡ bytesOf (map (λ v. getD (now (words .entry)) v 0) (now (members .entry))) ⌝ }
 {
-    let mut at: usize = 0;
-    let mut v: usize = 0;
-    while v < nodes.len() {
-        if in_row_by(file, tables, nodes, Row::Outputs, v, codes, sources) {
-            put_word(outputs, at, number_at(words, v));
-            at = at + 2;
-            v = v + 1;
-        } else {
-            v = v + 1;
-        }
+    let mut i: usize = 0;
+    while i < members.len() {
+        put_word(out, 2 * i, number_at(words, wide(members[i])));
+        i = i + 1;
     }
 }
 
@@ -211,27 +187,46 @@ fn run_opened(
         × (now (outputs .exit) ≡ runNet (netIn (now (file .entry)) (now (tables .entry)) (now (nodes .entry))) (now (state .entry)) (now (inputs .entry)) (now (outputs .entry)) .outputs) ⌝ }
 {
     let mut words = [0u16; 1024];
-    if load_row_by(
+    let mut ports = [0u16; 1024];
+    let mut holders = [0u16; 1024];
+    let n = row_members(file, tables, nodes, Row::Inputs, &mut ports, codes, sources);
+    if load_row(
         file,
         tables,
         nodes,
         Row::Inputs,
         inputs,
+        &ports[..n],
         &mut words,
-        codes,
-        sources,
         widths,
     ) {
-        if outputs.len() == 2 * count_row_by(file, tables, nodes, Row::Outputs, codes, sources) {
-            if load_row_by(
+        let m = row_members(
+            file,
+            tables,
+            nodes,
+            Row::Outputs,
+            &mut ports,
+            codes,
+            sources,
+        );
+        if outputs.len() == 2 * m {
+            let k = row_members(
+                file,
+                tables,
+                nodes,
+                Row::State,
+                &mut holders,
+                codes,
+                sources,
+            );
+            if load_row(
                 file,
                 tables,
                 nodes,
                 Row::State,
                 state,
+                &holders[..k],
                 &mut words,
-                codes,
-                sources,
                 widths,
             ) {
                 evaluate(
@@ -244,8 +239,17 @@ fn run_opened(
                     sources,
                     widths,
                 );
-                store_outputs(file, tables, nodes, &words, outputs, codes, sources);
-                store_state(file, tables, nodes, &words, state, codes, sources);
+                store_words(&ports[..m], &words, outputs);
+                store_state(
+                    file,
+                    tables,
+                    nodes,
+                    &holders[..k],
+                    &words,
+                    state,
+                    codes,
+                    sources,
+                );
                 Answer::Accepted(outputs.len())
             } else {
                 Answer::Refused(16, 65535)
