@@ -6,3 +6,4 @@ pub mod BelowLaws
 pub mod SearchLaws
 pub mod ListsLaws
 pub mod DistinctLaws
+pub mod Threes

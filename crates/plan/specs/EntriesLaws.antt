@@ -21,10 +21,10 @@ use Rattle.netlist.specs.NodeLaws.{few-operands}
 use Rattle.behaviour.specs.Run.{zeroWord}
 use Rattle.retiming.specs.Rewrite.{Place, Entry, Reg, root, memoryAt, stays, copyOn, copiesAt, copiesOf, copies, entriesOf, entryPlaces, timing, timingBy}
 use Rattle.retiming.specs.Layout.{noPlace}
-use Rattle.plan.specs.Threes.{concat-next, concat-longer, inRow, row-of-three, in-threes}
-use Rattle.plan.specs.Wiring.{wiresTo, sourceOf, wireAt, Wired, Unwired, WiredTo, Copied}
-use Rattle.plan.specs.WiringLaws.{wires-few}
-use Rattle.plan.specs.Links.{From}
+use Rattle.lists.specs.Threes.{concat-next, concat-longer, inRow, row-of-three, in-threes}
+use Rattle.wiring.specs.Wiring.{wiresTo, sourceOf, wireAt, Wired, Unwired, WiredTo, Copied}
+use Rattle.wiring.specs.WiringLaws.{wires-few}
+use Rattle.wiring.specs.Links.{From}
 use Rattle.plan.specs.Entries.{Finds, Stored, Placing, Adds, wantedOf, Wants, AddsAll, entriesBefore, Firsts, AllPlaced}
 
 -- ---- one entry more

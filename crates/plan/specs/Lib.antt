@@ -1,9 +1,5 @@
-pub mod Wiring
-pub mod WiringLaws
-pub mod Threes
 pub mod Entries
 pub mod EntriesLaws
-pub mod Links
 pub mod Registers
 pub mod RegistersPut
 pub mod RegistersRow

@@ -18,8 +18,8 @@ use Rattle.retiming.specs.Leads.{lead}
 use Rattle.retiming.specs.Rewrite.{Place, Entry, Reg, root, memoryAt, countOn, copyOn, wordFrom, resetWord, entryPlaces, regPlaces, places, numberOf, along, timing, timingBy}
 use Rattle.retiming.specs.Layout.{noPlace, Stands, Sound, places-sound}
 use Rattle.first_clocks.specs.Wanted.{OfNodes, Taken}
-use Rattle.plan.specs.Wiring.{Ready, countFrom, count-from, wiresTo, readerOf, sourceOf, wireAt, lastClock, Wired, WiredTo, Copied}
-use Rattle.plan.specs.WiringLaws.{wire-inside}
+use Rattle.wiring.specs.Wiring.{Ready, countFrom, count-from, wiresTo, readerOf, sourceOf, wireAt, lastClock, Wired, WiredTo, Copied}
+use Rattle.wiring.specs.WiringLaws.{wire-inside}
 use Rattle.plan.specs.Entries.{Stored, Wants, AllPlaced}
 use Rattle.plan.specs.EntriesLaws.{all-wanted}
 use Rattle.plan.specs.Registers.{entryCount, entryAt, wiresBefore, Planning, RegHeld, HeadHeld, Laid, AllLaid}

@@ -11,7 +11,7 @@ use Rattle.behaviour.specs.Run.{zeroWord}
 use Rattle.retiming.specs.Leads.{lead}
 use Rattle.retiming.specs.Rewrite.{Place, Entry, Reg, root, regsOn, entryPlaces, numberOf, along, timing}
 use Rattle.retiming.specs.Layout.{noPlace}
-use Rattle.plan.specs.Wiring.{Ready, sourceOf, wireAt, Copied}
+use Rattle.wiring.specs.Wiring.{Ready, sourceOf, wireAt, Copied}
 use Rattle.plan.specs.Entries.{Stored, Firsts}
 
 -- what register t of a wire reads, from the source on: the source, or the register before it

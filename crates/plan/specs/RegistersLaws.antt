@@ -18,8 +18,8 @@ use Rattle.retiming.specs.Leads.{lead}
 use Rattle.retiming.specs.Rewrite.{Place, Entry, Reg, root, countOn, copyOn, copies, stays, regsOn, entryPlaces, numberOf, along, timing, timingBy}
 use Rattle.retiming.specs.Layout.{noPlace, Stands, stays-if, copy-on, along-reg, along-end}
 use Rattle.retiming.specs.Wires.{Rooted, ringless-rooted, root-within}
-use Rattle.plan.specs.Threes.{concat-longer}
-use Rattle.plan.specs.Wiring.{countFrom, count-from, wiresTo, sourceOf, wireAt}
+use Rattle.lists.specs.Threes.{concat-longer}
+use Rattle.wiring.specs.Wiring.{countFrom, count-from, wiresTo, sourceOf, wireAt}
 use Rattle.plan.specs.Entries.{Finds, Stored, entriesBefore}
 use Rattle.plan.specs.Registers.{behind, Puts, entryCount, entryAt, wireOf, wiresBefore, Planning, HeadHeld, RegHeld, Laid, AllLaid}
 use Rattle.plan.specs.RegistersRow.{wires-next, reg-number, entry-number, entries-few, reader-stands, wires-all}

@@ -20,8 +20,8 @@ use Rattle.behaviour.specs.Run.{zeroWord}
 use Rattle.retiming.specs.Rewrite.{Place, Entry, Reg, copies, entriesOf, wiresOf, wiresAll, wirePlaces, regsOn, entryPlaces, regPlaces, places, numberOf, timing}
 use Rattle.retiming.specs.Layout.{noPlace, Stands, Sound, places-sound}
 use Rattle.retiming.specs.Numbers.{number-of-place}
-use Rattle.plan.specs.Threes.{concat-next, concat-after, row-of-three, in-threes}
-use Rattle.plan.specs.Wiring.{wiresTo}
+use Rattle.lists.specs.Threes.{concat-next, concat-after, row-of-three, in-threes}
+use Rattle.wiring.specs.Wiring.{wiresTo}
 use Rattle.plan.specs.Entries.{Finds, Stored, entriesBefore}
 use Rattle.plan.specs.EntriesLaws.{longer-after, entries-all}
 use Rattle.plan.specs.Registers.{entryCount, entryAt, wireOf, wiresBefore}

@@ -1,5 +1,5 @@
 // The nodes of the rewritten netlist that are no registers, in the file's order: an old node that is no register once, a ROM once for each different reset word.
-use super::wiring::memory_bit;
+use wiring::memory_bit;
 use areas::number_at;
 use areas::put_number;
 use columns::kinds::code_of;
@@ -12,7 +12,7 @@ ghost use Rattle.netlist.specs.ScanLaws.{Found};
 ghost use Rattle.netlist.specs.File.{netIn};
 ghost use Rattle.columns.specs.Columns.{Columns};
 ghost use Rattle.plan.specs.Entries.{Finds, Placing, Adds, Wants, AddsAll, entriesBefore, AllPlaced};
-ghost use Rattle.plan.specs.Links.{Chained, RomsLinked};
+ghost use Rattle.wiring.specs.Links.{Chained, RomsLinked};
 
 // The first place from one on that has the word; where none up to another has it, that one.
 pub fn find_from(words: &[u16], c: u16, from: usize, to: usize) -> usize

@@ -1,14 +1,12 @@
 // Where everything goes in the rewritten netlist, and with which reset words: document 01, "Leads and the rewritten file".
 mod entries;
-mod links;
 mod registers;
-mod wiring;
 
 use areas::fill;
 use entries::place_entries;
 use first_clocks::first_clock;
 use first_clocks::first_words;
-use links::link_wires;
+use wiring::links::link_wires;
 use registers::lay_wires;
 use wiring::enter_wires;
 ghost use mathlib.Core.Path.{_≡_};
@@ -18,7 +16,7 @@ ghost use Rattle.netlist.specs.ScanLaws.{Found};
 ghost use Rattle.netlist.specs.File.{netIn};
 ghost use Rattle.order.specs.Order.{Complete};
 ghost use Rattle.columns.specs.Columns.{Columns, Widths};
-ghost use Rattle.plan.specs.Wiring.{Ready};
+ghost use Rattle.wiring.specs.Wiring.{Ready};
 ghost use Rattle.plan.specs.Plan.{PlanMade};
 
 // How many nodes come before the registers, and how many there are.

@@ -1,6 +1,6 @@
 // The registers of the rewritten netlist: those of each wire, by reader, by operand, from source to reader; and what each entry reads.
 use super::entries::find_from;
-use super::wiring::count_on;
+use wiring::count_on;
 use areas::number_at;
 use areas::put_number;
 use index::wide;

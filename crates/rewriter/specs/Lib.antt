@@ -1,4 +1,1 @@
-pub mod Lengths
-pub mod Written
-pub mod PlannedNode
 pub mod Rewriting

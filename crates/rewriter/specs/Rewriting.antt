@@ -32,7 +32,7 @@ use Rattle.retiming.specs.Rewrite.{places, nodeOf, timing, rewrittenWith, rewri
 use Rattle.retiming.specs.Debt.{grown, debtVerdict}
 use Rattle.retiming.specs.FileRewrite.{debtAfter, rewriterJudged, rewriterVerdict, rewrittenOf, rewrittenFile, Rewrote, written, writtenAfter, rewriteFile}
 use Rattle.leads.specs.Debts.{debtsVerdict, onward, debts-first}
-use Rattle.rewriter.specs.Written.{TablesCame}
+use Rattle.layout.specs.Written.{TablesCame}
 
 -- ---- 13
 

@@ -1,5 +1,4 @@
 // The rewriter: checks 1 to 14, and the netlist whose ROMs are all clocked. Nothing is written before every check is passed.
-mod layout;
 
 use checks::open_columns;
 use layout::nodes_length;
@@ -29,7 +28,7 @@ ghost use Rattle.retiming.specs.Rewrite.{rewritten};
 ghost use Rattle.retiming.specs.FileRewrite.{written, rewriteFile};
 ghost use Rattle.leads.specs.Settled.{LeadsIn};
 ghost use Rattle.plan.specs.Plan.{Planned};
-ghost use Rattle.rewriter.specs.Written.{TablesCame};
+ghost use Rattle.layout.specs.Written.{TablesCame};
 ghost use Rattle.rewriter.specs.Rewriting.{debtlessOutcome, netOutcome};
 
 // Writes the planned file, where the output is long enough for it: 14.

@@ -6,8 +6,8 @@ use lib.ListN.{replicate, length-replicate}
 use borrow.Author.Needs.{needs}
 use Rattle.netlist.specs.File.{netIn}
 use Rattle.netlist.specs.FileLaws.{size-in}
-use Rattle.plan.specs.Links.{linked-none, linked-as, roms-linked}
-use Rattle.plan.specs.WiringLaws.{wired-none, wired-at}
+use Rattle.wiring.specs.Links.{linked-none, linked-as, roms-linked}
+use Rattle.wiring.specs.WiringLaws.{wired-none, wired-at}
 use Rattle.plan.specs.PlanLaws.{wires-of-nodes, wants-taken, entries-are, planning, laid-first, registers-of-nodes, plan-made, many-entries, many-registers}
 use Rattle.plan.proofs.make_plan.Statement.{statement}
 use Rattle.plan.proofs.make_plan.Tie as tie

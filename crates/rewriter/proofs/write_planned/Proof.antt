@@ -9,7 +9,7 @@ use Rattle.netlist.specs.declared.Answer.the-variants.{Accepted}
 use Rattle.netlist.specs.File.{netIn, encode}
 use Rattle.retiming.specs.Rewrite.{rewritten}
 use Rattle.writer.specs.Written.{puts-as, puts-more}
-use Rattle.rewriter.specs.Written.{file-is, file-length, file-puts}
+use Rattle.layout.specs.Written.{file-is, file-length, file-puts}
 use Rattle.rewriter.specs.Rewriting.{rewrote, too-short, long-enough}
 use Rattle.rewriter.proofs.write_planned.Statement.{statement}
 use Rattle.rewriter.proofs.write_planned.Tie as tie

@@ -5,7 +5,7 @@ use native.Mathlib.Omega.{arith}
 use mathlib.Core.Logic.{⊎-elim}
 use lib.ListN.{length, getD}
 use Rattle.lists.specs.BelowLaws.{lt-or-le}
-use Rattle.plan.specs.Links.{From}
+use Rattle.wiring.specs.Links.{From}
 use borrow.Author.Needs.{needs}
 use Rattle.plan.specs.Entries.{AddsAll}
 use Rattle.plan.specs.EntriesLaws.{adds-none, adds-more, adds-to}

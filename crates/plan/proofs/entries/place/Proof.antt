@@ -9,7 +9,7 @@ use Rattle.netlist.specs.File.{netIn}
 use Rattle.netlist.specs.FileLaws.{size-in}
 use Rattle.plan.specs.EntriesLaws.{entries-register, entries-plain, placing-more, placing-as, placing-count, rom-placed}
 use Rattle.columns.specs.Kinds.{memory-bit, register-bit, bit-true, bit-false}
-use Rattle.plan.specs.Links.{chained-as}
+use Rattle.wiring.specs.Links.{chained-as}
 use Rattle.plan.proofs.entries.place.Statement.{statement}
 use Rattle.plan.proofs.entries.place.Tie as tie
 

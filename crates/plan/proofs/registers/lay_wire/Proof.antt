@@ -8,8 +8,8 @@ use borrow.Author.Needs.{needs}
 use Rattle.netlist.specs.Net.{Net, size, source}
 use Rattle.netlist.specs.File.{netIn}
 use Rattle.netlist.specs.FileLaws.{size-in}
-use Rattle.plan.specs.Wiring.{countFrom}
-use Rattle.plan.specs.WiringLaws.{lead-few}
+use Rattle.wiring.specs.Wiring.{countFrom}
+use Rattle.wiring.specs.WiringLaws.{lead-few}
 use Rattle.retiming.specs.Leads.{lead}
 use Rattle.plan.specs.Entries.{Finds}
 use Rattle.plan.specs.Registers.{entryCount}

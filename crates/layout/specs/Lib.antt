@@ -1,0 +1,3 @@
+pub mod Lengths
+pub mod Written
+pub mod PlannedNode

@@ -1,0 +1,22 @@
+-- By the code.
+use borrow.Author.Needs.{needs}
+use Rattle.wiring.specs.WiringLaws.{rom-some, rom-none}
+use Rattle.wiring.proofs.rom_clock.Statement.{statement}
+use Rattle.wiring.proofs.rom_clock.Tie as tie
+
+memory-bit-requires : tie.Need-memory-bit-requires
+memory-bit-requires c κs = search needs
+
+returns : tie.Need-returns
+returns c = rom-some (c .before .before .args .clock) (c .before .memory-bit .ensures .0) (c .if1 .taken)
+
+returns-2 : tie.Need-returns-2
+returns-2 c = rom-none (c .before .before .args .clock) (c .before .memory-bit .ensures .0) (c .if1 .left)
+
+pub rom-clock-spec : {M : Type 1} → statement M
+rom-clock-spec =
+    tie.close
+    (tie.spec
+    memory-bit-requires
+    returns
+    returns-2)

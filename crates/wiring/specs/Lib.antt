@@ -1,0 +1,3 @@
+pub mod Wiring
+pub mod WiringLaws
+pub mod Links

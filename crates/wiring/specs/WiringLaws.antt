@@ -1,0 +1,198 @@
+-- Wires counted and entered, over plain values. Assumes nothing.
+use mathlib.Core.Path.{_≡_, refl, sym, ap, ap₂, subst, _∙_}
+use mathlib.Core.Logic.{_⊎_, inl, inr, ⊎-elim}
+use mathlib.Core.Bool.{Bool, true, false, cond, true≢false}
+use mathlib.Core.List.{List}
+use Prim.Native.Nat.{ℕ, suc, _+_, _-_, _*_, _/_, _%_, _≤_, _<_}
+use native.Mathlib.Nat.{le-refl}
+use native.Mathlib.Omega.{arith}
+use lib.ListN.{length, getD, set, replicate, getD-replicate}
+use lib.Seq.{getD-set-same, getD-set-other}
+use lib.Dec.{eqb, ltb}
+use borrow.Author.Tests.{lt-ltb, le-ltb, ltb-true}
+use Rattle.lists.specs.Lists.{one, countBelow}
+use Rattle.lists.specs.BelowLaws.{lt-suc-split, lt-or-le, countBelow-le, true-or-false}
+use Rattle.netlist.specs.declared.Element.{Element}
+use Rattle.netlist.specs.declared.Element.the-variants.{Input, Output, Register, Async, Clocked, Gate}
+use Rattle.netlist.specs.Net.{Net, size, elementAt, source, operands, isAsync, isMemory, isClocked, Sourced}
+use Rattle.netlist.specs.NodeLaws.{few-operands}
+use Rattle.nodes.specs.Code.{codeOf, sourcesByCode, code-sources}
+use Rattle.columns.specs.Kinds.{code-memory, bit-true, bit-false}
+use Rattle.retiming.specs.Leads.{lead}
+use Rattle.retiming.specs.AtMostRoms.{romCount, lead-at-most-roms}
+use Rattle.retiming.specs.Rewrite.{root, passed, ownHere, memoryAt}
+use Rattle.retiming.specs.Wires.{root-within}
+use Rattle.wires.specs.TracedLaws.{passed-few}
+use Rattle.wiring.specs.Wiring.{Ready, countFrom, wiresTo, readerOf, sourceOf, wireAt, lastClock, Wired, Unwired, WiredTo}
+
+pub wires-few : (e : Element) → wiresTo e ≤ operands e
+wires-few Input = omega arith
+wires-few Output = omega arith
+wires-few (Register r) = omega arith
+wires-few (Async m) = le-refl _
+wires-few (Clocked m r) = le-refl _
+wires-few (Gate o) = le-refl _
+
+one-few : (b : Bool) → one b ≤ 1
+one-few true = omega arith
+one-few false = omega arith
+
+module _ {N : Net} {leads roots passes : List ℕ} (t : Ready N leads roots passes) where
+  -- the leads in the work area are small
+  pub lead-few : (v : ℕ) → v < size N → getD leads v 0 ≤ 1024
+  unfolding romCount
+  lead-few v h =
+      omega (arith, t .leads-in v h, lead-at-most-roms N (t .formed .sourced) (t .debtless) v h, countBelow-le (λ u. isAsync (elementAt N u)) (size N), t .formed .fields .bounds .nodes)
+
+  module _ {s u : ℕ} (h : s < size N) (e : u ≡ getD roots s 0) where
+    pub is-root : u ≡ root N s
+    is-root = e ∙ t .traced s h .from
+
+    pub root-inside : u < size N
+    root-inside = omega (arith, is-root, root-within N (t .formed .sourced) s h)
+
+    pub passed-small : getD passes s 0 ≤ 1024
+    passed-small = omega (arith, t .traced s h .through, passed-few N s, t .formed .fields .bounds .nodes)
+
+    -- the registers on a wire, from what the work areas hold
+    module _ {x : ℕ} (k : x < size N) where
+      pub counted : ((getD passes s 0 + one (isClocked (elementAt N u)) + getD leads u 0) - getD leads x 0) - one (isMemory (elementAt N u)) ≡ countFrom N x s
+      unfolding countFrom ownHere memoryAt
+      counted =
+          let p = t .traced s h .through in
+          let l = t .leads-in u root-inside ∙ ap (lead N) is-root in
+          let o : one (isClocked (elementAt N u)) ≡ one (isClocked (elementAt N (root N s))) = ap (λ (v : ℕ). one (isClocked (elementAt N v))) is-root in
+          let m : one (isMemory (elementAt N u)) ≡ one (isMemory (elementAt N (root N s))) = ap (λ (v : ℕ). one (isMemory (elementAt N v))) is-root in
+          omega (arith, t .leads-in x k)
+
+      pub count-few : ((getD passes s 0 + one (isClocked (elementAt N u)) + getD leads u 0) - getD leads x 0) - one (isMemory (elementAt N u)) ≤ 2049
+      count-few = omega (arith, passed-small, lead-few u root-inside, one-few (isClocked (elementAt N u)))
+
+-- ---- one wire more
+
+module _ {N : Net} {ends froms clocks : List ℕ} {k : ℕ} (w : WiredTo N ends froms clocks k) where
+  -- up to m there is none
+  pub wired-gap : (m : ℕ) → k ≤ m → m ≤ 3072 → ((j : ℕ) → k ≤ j → j < m → wireAt N j ≡ false) → WiredTo N ends froms clocks m
+  wired-gap m h b none = record {
+    wires = λ j l g. ⊎-elim (λ a. w .wires j a g) (λ a. absurd (true≢false (sym g ∙ none j a l))) (lt-or-le j k);
+    gaps = λ j l g. ⊎-elim (λ a. w .gaps j a g) (λ a. w .ahead j a (omega arith)) (lt-or-le j k);
+    ahead = λ j l d. w .ahead j (omega arith) d;
+  }
+
+  module _ (a : length ends ≡ 3072) (d : length clocks ≡ 3072) (h : k < 3072) {end clock at : ℕ} (g : wireAt N k ≡ true)
+      (e : end ≡ root N (sourceOf N k)) (f : getD froms k 0 ≡ sourceOf N k) (c : clock ≡ lastClock N k) (small : clock < 65535)
+      (r : at ≡ cond (memoryAt N (root N (sourceOf N k))) clock 65535) where
+    abbrev ends′ : List ℕ
+    ends′ = set ends k end
+
+    abbrev clocks′ : List ℕ
+    clocks′ = set clocks k at
+
+    here : Wired N ends′ froms clocks′ k
+    here = record {
+      end = getD-set-same ends k end 0 (omega arith) ∙ e;
+      from = f;
+      early = omega (arith, c);
+      rom = λ m. getD-set-same clocks k at 0 (omega arith) ∙ r ∙ ap (λ (z : Bool). cond z clock 65535) m ∙ c;
+      other = λ m. getD-set-same clocks k at 0 (omega arith) ∙ r ∙ ap (λ (z : Bool). cond z clock 65535) m;
+    }
+
+    still : (j : ℕ) → j < k → Wired N ends froms clocks j → Wired N ends′ froms clocks′ j
+    still j l y = record {
+      end = getD-set-other ends k j end 0 (λ q. omega arith) ∙ y .end;
+      from = y .from;
+      early = y .early;
+      rom = λ m. getD-set-other clocks k j at 0 (λ q. omega arith) ∙ y .rom m;
+      other = λ m. getD-set-other clocks k j at 0 (λ q. omega arith) ∙ y .other m;
+    }
+
+    none : (j : ℕ) → (j ≡ k → ⊥) → Unwired N ends froms clocks j → Unwired N ends′ froms clocks′ j
+    none j l y = record {
+      end = getD-set-other ends k j end 0 l ∙ y .end;
+      never = getD-set-other clocks k j at 0 l ∙ y .never;
+    }
+
+    pub wired-more : WiredTo N ends′ froms clocks′ (k + 1)
+    wired-more = record {
+      wires = λ j l q. ⊎-elim (λ y. still j y (w .wires j y q)) (λ y. subst (Wired N ends′ froms clocks′) (sym y) here) (lt-suc-split (let z : j < suc k = omega arith in z));
+      gaps = λ j l q. ⊎-elim (λ y. none j (λ z. omega arith) (w .gaps j y q)) (λ y. absurd (true≢false (sym g ∙ ap (wireAt N) (sym y) ∙ q))) (lt-suc-split (let z : j < suc k = omega arith in z));
+      ahead = λ j l m. none j (λ z. omega arith) (w .ahead j (omega arith) m);
+    }
+
+-- the same of equal work areas, and of equal numbers
+pub wired-as : {N : Net} {e e′ f c c′ : List ℕ} {k : ℕ} → e′ ≡ e → c′ ≡ c → WiredTo N e f c k → WiredTo N e′ f c′ k
+wired-as {N} {e} {e′} {f} {c} {c′} {k} p r w = subst (λ (y : List ℕ). WiredTo N y f c′ k) (sym p) (subst (λ (y : List ℕ). WiredTo N e f y k) (sym r) w)
+
+pub wired-at : {N : Net} {e f c : List ℕ} {k m : ℕ} → k ≡ m → WiredTo N e f c k → WiredTo N e f c m
+wired-at {N} {e} {f} {c} p w = subst (WiredTo N e f c) p w
+
+-- at first there is none
+pub wired-none : (N : Net) (froms : List ℕ) → WiredTo N (replicate 3072 65535) froms (replicate 3072 65535) 0
+wired-none N froms = record {
+  wires = λ j l g. absurd (omega arith);
+  gaps = λ j l g. absurd (omega arith);
+  ahead = λ j l m. record { end = getD-replicate 3072 j 65535 0 m; never = getD-replicate 3072 j 65535 0 m };
+}
+
+-- ---- wire k as the code reads it
+
+code-wires : (e : Element) → codeOf e ≡ 2 → 0 ≡ wiresTo e
+code-wires Input q = refl
+code-wires Output q = absurd (omega arith)
+code-wires (Register r) q = refl
+code-wires (Async m) q = absurd (omega arith)
+code-wires (Clocked m r) q = absurd (omega arith)
+code-wires (Gate o) q = absurd (omega arith)
+
+other-wires : (e : Element) → (codeOf e ≡ 2 → ⊥) → operands e ≡ wiresTo e
+other-wires Input q = refl
+other-wires Output q = refl
+other-wires (Register r) q = absurd (q refl)
+other-wires (Async m) q = refl
+other-wires (Clocked m r) q = refl
+other-wires (Gate o) q = refl
+
+pub register-wires : {code : ℕ} → code ≡ 2 → (e : Element) → code ≡ codeOf e → 0 ≡ wiresTo e
+register-wires q e c = code-wires e (sym c ∙ q)
+
+pub count-wires : {code n : ℕ} → (code ≡ 2 → ⊥) → n ≡ getD sourcesByCode code 0 → (e : Element) → code ≡ codeOf e → n ≡ wiresTo e
+count-wires q n e c = n ∙ ap (λ (k : ℕ). getD sourcesByCode k 0) c ∙ code-sources e ∙ other-wires e (λ y. q (c ∙ y))
+
+-- the clock of a ROM
+pub rom-some : (clock : ℕ) {code b : ℕ} → b ≡ one (eqb code 3) + one (eqb code 4) → b ≡ 1 → (e : Element) → code ≡ codeOf e → clock ≡ cond (isMemory e) clock 65535
+rom-some clock q r e c =
+    let m : isMemory e ≡ true = bit-true (sym (code-memory e) ∙ ap (λ (k : ℕ). one (eqb k 3) + one (eqb k 4)) (sym c) ∙ sym q ∙ r) in
+    sym (ap (λ (z : Bool). cond z clock 65535) m)
+
+pub rom-none : (clock : ℕ) {code b : ℕ} → b ≡ one (eqb code 3) + one (eqb code 4) → (b ≡ 1 → ⊥) → (e : Element) → code ≡ codeOf e → 65535 ≡ cond (isMemory e) clock 65535
+rom-none clock q r e c =
+    let m : isMemory e ≡ false = bit-false (λ y. r (q ∙ ap (λ (k : ℕ). one (eqb k 3) + one (eqb k 4)) c ∙ code-memory e ∙ y)) in
+    sym (ap (λ (z : Bool). cond z clock 65535) m)
+
+module _ (N : Net) (k : ℕ) where
+  pub wire-there : k % 3 < wiresTo (elementAt N (k / 3)) → wireAt N k ≡ true
+  unfolding wireAt
+  wire-there h = lt-ltb (k % 3) (wiresTo (elementAt N (k / 3))) h
+
+  pub wire-missing : wiresTo (elementAt N (k / 3)) ≤ k % 3 → wireAt N k ≡ false
+  unfolding wireAt
+  wire-missing h = le-ltb (k % 3) (wiresTo (elementAt N (k / 3))) h
+
+-- a wire ends at an operand
+pub wire-operand : (N : Net) (k : ℕ) → wireAt N k ≡ true → k % 3 < operands (elementAt N (k / 3))
+unfolding wireAt
+wire-operand N k e = omega (arith, ltb-true (k % 3) (wiresTo (elementAt N (k / 3))) e, wires-few (elementAt N (k / 3)))
+
+-- and its source is a node
+pub wire-inside : (N : Net) → Sourced N → (k : ℕ) → k < 3 * size N → wireAt N k ≡ true → sourceOf N k < size N
+unfolding Sourced
+wire-inside N sourced k h e = sourced (k / 3) (k % 3) (omega arith) (wire-operand N k e)
+
+-- the root of a wire as the code reads it
+pub rom-at : (N : Net) (u v : ℕ) (clock : ℕ) → u ≡ v → cond (isMemory (elementAt N u)) clock 65535 ≡ cond (memoryAt N v) clock 65535
+unfolding memoryAt
+rom-at N u v clock e = ap (λ (x : ℕ). cond (isMemory (elementAt N x)) clock 65535) e
+
+pub last-is : (N : Net) (k : ℕ) {clock count l s : ℕ} → clock ≡ count + l → count ≡ countFrom N (k / 3) s → l ≡ lead N (k / 3) → s ≡ sourceOf N k → clock ≡ lastClock N k
+unfolding lastClock
+last-is N k a b c d = a ∙ ap₂ _+_ (b ∙ ap (countFrom N (k / 3)) d) c
