@@ -1,5 +1,5 @@
 -- A row's members are loaded one after the other. Assumes nothing.
-use mathlib.Core.Path.{_≡_, sym, ap, subst, _∙_}
+use mathlib.Core.Path.{_≡_, sym, subst, _∙_}
 use mathlib.Core.Bool.{Bool, true, false, false≢true}
 use mathlib.Core.List.{List}
 use Prim.Native.Nat.{ℕ, _+_, _*_, _^_, _≤_, _<_}
@@ -44,8 +44,8 @@ module _ (row : Row) (N : Net) {members : List ℕ} (e : members ≡ rowMembers 
   count : length members ≡ countBelow q (size N)
   count = members-count q (size N) e
 
-  pub is-node : {i v : ℕ} → i < length members → v ≡ getD members i 0 → v < size N
-  is-node l at = member q (size N) e l at .low
+  pub is-node : {n i v : ℕ} → size N ≡ n → i < length members → v ≡ getD members i 0 → v < n
+  is-node z l at = omega (arith, member q (size N) e l at .low)
 
   pub other-length : {b before after : List ℕ} → (length b ≡ 2 * length members → ⊥) → Outcome row N b before after false
   other-length {b} d = refused (load-other q w (size N) b (λ h. d (omega (arith, count))))
@@ -57,9 +57,9 @@ module _ (row : Row) (N : Net) {members : List ℕ} (e : members ≡ rowMembers 
     pub too-wide : {before after : List ℕ} {i v x : ℕ} → i < length members → v ≡ getD members i 0 → x ≡ word b (2 * i) → 2 ^ widthAt N v ≤ x → Outcome row N b before after false
     too-wide l at is f = refused (load-wide q w (size N) b (member q (size N) e l at) is whole f)
 
-    pub loaded : {before after : List ℕ} {i : ℕ} → i ≡ length members → Loads N members b before after i → Outcome row N b before after true
-    loaded {before} {after} {i} all f =
-        (sym (load-fits q w (size N) b whole t), λ y. record { kept = t .kept; words = load-words q w (size N) b whole t; fit = λ v l o. t .fit v o (countBelow-lt q v (size N) o l); others = t .others })
+    pub loaded : {before after : List ℕ} {i : ℕ} → length after ≡ length before → i ≡ length members → Loads N members b before after i → Outcome row N b before after true
+    loaded {before} {after} {i} kept all f =
+        (sym (load-fits q w (size N) b whole t), λ y. record { kept = kept; words = load-words q w (size N) b whole t; fit = λ v l o. t .fit v o (countBelow-lt q v (size N) o l); others = t .others })
       where
         t : Loading q w b before after (countBelow q (size N))
         t = subst (Loading q w b before after) (all ∙ count) (f row e)

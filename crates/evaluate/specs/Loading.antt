@@ -1,12 +1,12 @@
 -- A row is loaded word by word, over plain values: q says which numbers have a word in it, w how wide. Assumes nothing.
 use mathlib.Core.Path.{_≡_, refl, sym, ap, subst, _∙_}
 use mathlib.Core.Logic.{_⊎_, inl, inr, ⊎-elim}
-use mathlib.Core.Bool.{Bool, true, false, true≢false, _&&_}
+use mathlib.Core.Bool.{Bool, true, false, true≢false}
 use mathlib.Core.List.{List}
 use Prim.Native.Nat.{ℕ, suc, _+_, _*_, _/_, _^_, _≤_, _<_}
 use native.Mathlib.Nat.{not-suc-le-zero}
 use native.Mathlib.Omega.{arith}
-use lib.ListN.{length, getD, set, length-set}
+use lib.ListN.{length, getD, set}
 use lib.Seq.{getD-set-same, getD-set-other, ext-getD}
 use lib.Dec.{eqb}
 use borrow.Author.Tests.{eq-eqb, ne-eqb}
@@ -22,13 +22,12 @@ use Rattle.evaluate.specs.SelectLaws.{Member, some-member, select-at}
 
 -- the numbers before the i-th that passes have their words, and no other number's word is touched
 pub record Loading (q : ℕ → Bool) (w : ℕ → ℕ) (b before after : List ℕ) (i : ℕ) : Type 0 where
-  pub kept : length after ≡ length before
   pub each : (u : ℕ) → q u ≡ true → countBelow q u < i → getD after u 0 ≡ word b (2 * countBelow q u)
   pub fit : (u : ℕ) → q u ≡ true → countBelow q u < i → getD after u 0 < 2 ^ w u
   pub others : (u : ℕ) → q u ≡ false → getD after u 0 ≡ getD before u 0
 
 pub load-none : (q : ℕ → Bool) (w : ℕ → ℕ) (b l : List ℕ) → Loading q w b l l 0
-load-none q w b l = record { kept = refl; each = λ u y h. absurd (not-suc-le-zero h); fit = λ u y h. absurd (not-suc-le-zero h); others = λ u y. refl }
+load-none q w b l = record { each = λ u y h. absurd (not-suc-le-zero h); fit = λ u y h. absurd (not-suc-le-zero h); others = λ u y. refl }
 
 module _ (q : ℕ → Bool) (w : ℕ → ℕ) (n : ℕ) (b : List ℕ) where
   -- number v is the i-th, and x its word
@@ -38,7 +37,6 @@ module _ (q : ℕ → Bool) (w : ℕ → ℕ) (n : ℕ) (b : List ℕ) where
 
     pub load-take : {before after : List ℕ} → Loading q w b before after i → x < 2 ^ w v → v < length after → Loading q w b before (set after v x) (i + 1)
     load-take {before} {after} t f r = record {
-      kept = length-set after v x ∙ t .kept;
       each = λ u y l. ⊎-elim (λ k. getD-set-other after v u x 0 (λ e. omega (arith, k, ap (countBelow q) e, m .place)) ∙ t .each u y k)
           (λ e. ap (λ (k : ℕ). getD (set after v x) k 0) e ∙ getD-set-same after v x 0 r ∙ at-word ∙ ap (λ (k : ℕ). word b (2 * countBelow q k)) (sym e)) (last u y l);
       fit = λ u y l. ⊎-elim (λ k. rw (getD-set-other after v u x 0 (λ e. omega (arith, k, ap (countBelow q) e, m .place))) (t .fit u y k))

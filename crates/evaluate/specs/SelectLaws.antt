@@ -15,9 +15,6 @@ use Rattle.lists.specs.ListsLaws.{concatMap-append, concatMap-cong, length-sele
 
 -- ---- one number more
 
-pub count-more : (q : ℕ → Bool) (n : ℕ) → countBelow q (n + 1) ≡ countBelow q n + one (q n)
-count-more q n = ap (countBelow q) (add-one n)
-
 select-more : {A : Type 0} (q : ℕ → Bool) (h : ℕ → A) (n : ℕ) → select q h (n + 1) ≡ select q h n ++ only (q n) (h n)
 select-more {A} q h n =
     ap (concatMap (λ v. only (q v) (h v))) (upFrom-split 0 n 1)

@@ -43,8 +43,8 @@ pub fn in_row_by(
 }
 
 // 1 for what counts, and 0 for what does not.
-fn ones(counts: bool) -> usize
-    ensures { λ r. ⌜ r ≡ one counts ⌝ }
+fn one_if(counts: bool) -> usize
+    ensures { λ r. ⌜ (r ≡ one counts) × (r ≤ 1) ⌝ }
 {
     if counts { 1 } else { 0 }
 }
@@ -68,7 +68,7 @@ pub fn row_members(
     let mut v: usize = 0;
     while v < nodes.len() {
         members[count] = v as u16;
-        count = count + ones(in_row_by(file, tables, nodes, row, v, codes, sources));
+        count = count + one_if(in_row_by(file, tables, nodes, row, v, codes, sources));
         v = v + 1;
     }
     count

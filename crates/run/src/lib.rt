@@ -141,15 +141,15 @@ fn store_state(
         × Columns (netIn (now file) (now tables) (now nodes)) (now codes) (now sources) (length (now nodes)) ⌝ }
     ensures { λ _. ⌜ now (state .exit) ≡ bytesOf (nextState (netIn (now (file .entry)) (now (tables .entry)) (now (nodes .entry))) (wordsIn (now (state .entry))) (now (words .entry))) ⌝ }
 {
-    let mut i: usize = 0;
-    while i < members.len() {
-        let v = wide(members[i]);
+    let mut k: usize = 0;
+    while k < members.len() {
+        let v = wide(members[k]);
         put_word(
             state,
-            2 * i,
+            2 * k,
             next_word(file, tables, nodes, v, words, codes, sources),
         );
-        i = i + 1;
+        k = k + 1;
     }
 }
 

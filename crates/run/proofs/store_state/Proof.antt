@@ -19,10 +19,10 @@ use Rattle.run.proofs.store_state.Statement.{statement}
 use Rattle.run.proofs.store_state.Tie as tie
 
 abbrev Inv-loop : tie.InvT-loop
-Inv-loop file tables nodes members words state₀ codes sources i₀ state i = Filling (λ u. nextWord (netIn file tables nodes) words u) members state₀ state i
+Inv-loop file tables nodes members words state₀ codes sources k₀ state k = Filling (λ u. nextWord (netIn file tables nodes) words u) members state₀ state k
 
 abbrev μ-loop : tie.MeasureT-loop
-μ-loop file tables nodes members words state₀ codes sources i₀ state i = length members - i
+μ-loop file tables nodes members words state₀ codes sources k₀ state k = length members - k
 
 loop-holds : tie.Need-loop-holds Inv-loop μ-loop
 loop-holds c = fill-none (c .before .before .before .before .before .before .before .before .pre .3)
@@ -53,8 +53,8 @@ next-word-requires c κs =
 put-word-requires : tie.Need-put-word-requires Inv-loop μ-loop
 put-word-requires c κs = fill-room (c .before .before .before .before .before .loop .inv) (c .before .before .before .before .loop-test .taken)
 
-add-i : tie.Need-add-i Inv-loop μ-loop
-add-i c = omega arith
+add-k : tie.Need-add-k Inv-loop μ-loop
+add-k c = omega arith
 
 loop-less : tie.Need-loop-less Inv-loop μ-loop
 loop-less c = omega arith
@@ -67,7 +67,7 @@ loop-again c =
     let ns = a .nodes .now in
     let N = netIn s ts ns in
     let more = fill-put (c .before .before .before .before .before .before .before .before .loop .inv) (c .before .before .before .before .before .before .before .loop-test .taken) (c .before .before .before .before .before .wide .ensures .0) (c .before .before .before .next-word .result) (c .before .before .before .next-word .ensures) in
-    subst (λ (l : List ℕ). Filling (λ u. nextWord N (a .words .now) u) (a .members .now) (a .state .now) l (c .before .before .before .before .before .before .before .before .loop .i + 1)) (sym (c .before .before .put-word .ensures)) more
+    subst (λ (l : List ℕ). Filling (λ u. nextWord N (a .words .now) u) (a .members .now) (a .state .now) l (c .before .before .before .before .before .before .before .before .loop .k + 1)) (sym (c .before .before .put-word .ensures)) more
 
 same-length : tie.Need-same-length Inv-loop μ-loop
 same-length c = fill-kept (c .before .loop .inv)
@@ -95,7 +95,7 @@ store-state-spec =
     mul-put-word
     next-word-requires
     put-word-requires
-    add-i
+    add-k
     loop-less
     loop-again
     same-length

@@ -60,7 +60,7 @@ shared-slice-read-fits-width c =
     let ts = a .tables .now in
     let ns = a .nodes .now in
     let N = netIn s ts ns in
-    let node : c .before .before .wide .result < length ns = let z = size-in s ts ns in omega (arith, is-node (a .row) N (c .before .before .before .before .before .before .before .before .before .before .before .before .before .before .pre .3) (c .before .before .before .before .loop-test .taken) (c .before .before .wide .ensures .0)) in
+    let node = is-node (a .row) N (c .before .before .before .before .before .before .before .before .before .before .before .before .before .before .pre .3) (size-in s ts ns) (c .before .before .before .before .loop-test .taken) (c .before .before .wide .ensures .0) in
     omega (arith, c .before .before .before .before .before .before .before .before .before .before .before .before .before .before .pre .0 .few-nodes, c .before .before .before .before .before .before .before .before .before .before .before .before .before .before .pre .4 .width-room)
 
 fits-width-requires : tie.Need-fits-width-requires Inv-loop μ-loop
@@ -70,7 +70,7 @@ fits-width-requires c κs =
     let ts = a .tables .now in
     let ns = a .nodes .now in
     let N = netIn s ts ns in
-    let node : c .before .before .wide .result < length ns = let z = size-in s ts ns in omega (arith, is-node (a .row) N (c .before .before .before .before .before .before .before .before .before .before .before .before .before .before .pre .3) (c .before .before .before .before .loop-test .taken) (c .before .before .wide .ensures .0)) in
+    let node = is-node (a .row) N (c .before .before .before .before .before .before .before .before .before .before .before .before .before .before .pre .3) (size-in s ts ns) (c .before .before .before .before .loop-test .taken) (c .before .before .wide .ensures .0) in
     omega (arith, c .before .before .before .before .before .before .before .before .before .before .before .before .before .before .pre .4 .width (c .before .before .wide .result) node, c .before .before .before .before .before .before .before .before .before .before .before .before .before .before .pre .1 .fields .width-high (c .before .before .wide .result) (let z = size-in s ts ns in omega arith))
 
 mul-words : tie.Need-mul-words Inv-loop μ-loop
@@ -83,7 +83,7 @@ slice-write-words c =
     let ts = a .tables .now in
     let ns = a .nodes .now in
     let N = netIn s ts ns in
-    let node : c .before .before .before .before .wide .result < length ns = let z = size-in s ts ns in omega (arith, is-node (a .row) N (c .before .before .before .before .before .before .before .before .before .before .before .before .before .before .before .before .pre .3) (c .before .before .before .before .before .before .loop-test .taken) (c .before .before .before .before .wide .ensures .0)) in
+    let node = is-node (a .row) N (c .before .before .before .before .before .before .before .before .before .before .before .before .before .before .before .before .pre .3) (size-in s ts ns) (c .before .before .before .before .before .before .loop-test .taken) (c .before .before .before .before .wide .ensures .0) in
     omega (arith, c .before .before .before .before .before .before .before .before .before .before .before .before .before .before .before .before .pre .2, c .before .before .before .before .before .before .before .loop .inv .1)
 
 add-i : tie.Need-add-i Inv-loop μ-loop
@@ -99,7 +99,7 @@ loop-again c =
     let ts = a .tables .now in
     let ns = a .nodes .now in
     let N = netIn s ts ns in
-    let node : c .before .before .before .before .wide .result < length ns = let z = size-in s ts ns in omega (arith, is-node (a .row) N (c .before .before .before .before .before .before .before .before .before .before .before .before .before .before .before .before .pre .3) (c .before .before .before .before .before .before .loop-test .taken) (c .before .before .before .before .wide .ensures .0)) in
+    let node = is-node (a .row) N (c .before .before .before .before .before .before .before .before .before .before .before .before .before .before .before .before .pre .3) (size-in s ts ns) (c .before .before .before .before .before .before .loop-test .taken) (c .before .before .before .before .wide .ensures .0) in
     let x = c .before .before .before .word-at .result in
     let fits : x < 2 ^ widthAt N (c .before .before .before .before .wide .result) = subst (λ (k : ℕ). x < 2 ^ k) (c .before .before .before .before .before .before .before .before .before .before .before .before .before .before .before .before .pre .4 .width (c .before .before .before .before .wide .result) node) (ltb-true _ _ (sym (c .before .fits-width .ensures) ∙ c .if2 .taken)) in (
       omega arith,
@@ -117,7 +117,7 @@ returns-2 c =
     let ts = a .tables .now in
     let ns = a .nodes .now in
     let N = netIn s ts ns in
-    let node : c .before .before .before .before .wide .result < length ns = let z = size-in s ts ns in omega (arith, is-node (a .row) N (c .before .before .before .before .before .before .before .before .before .before .before .before .before .before .before .before .pre .3) (c .before .before .before .before .before .before .loop-test .taken) (c .before .before .before .before .wide .ensures .0)) in
+    let node = is-node (a .row) N (c .before .before .before .before .before .before .before .before .before .before .before .before .before .before .before .before .pre .3) (size-in s ts ns) (c .before .before .before .before .before .before .loop-test .taken) (c .before .before .before .before .wide .ensures .0) in
     let x = c .before .before .before .word-at .result in
     too-wide (a .row) N (c .before .before .before .before .before .before .before .before .before .before .before .before .before .before .before .before .pre .3) (a .bytes .now) (c .before .before .before .before .before .before .before .before .if1 .left) (c .before .before .before .before .before .before .loop-test .taken) (c .before .before .before .before .wide .ensures .0) (c .before .before .before .word-at .ensures) (subst (λ (k : ℕ). 2 ^ k ≤ x) (c .before .before .before .before .before .before .before .before .before .before .before .before .before .before .before .before .pre .4 .width (c .before .before .before .before .wide .result) node) (ltb-false _ _ (sym (c .before .fits-width .ensures) ∙ c .if2 .left)))
 
@@ -130,7 +130,7 @@ returns-3 c =
     let s = a .file .now in
     let ts = a .tables .now in
     let ns = a .nodes .now in
-    loaded (a .row) (netIn s ts ns) (c .before .before .before .before .before .before .before .before .before .before .pre .3) (a .bytes .now) (c .before .before .if1 .left) (omega arith) (c .before .loop .inv .2)
+    loaded (a .row) (netIn s ts ns) (c .before .before .before .before .before .before .before .before .before .before .pre .3) (a .bytes .now) (c .before .before .if1 .left) (c .before .loop .inv .1) (omega arith) (c .before .loop .inv .2)
 
 pub load-row-spec : {M : Type 1} → statement M
 load-row-spec =
