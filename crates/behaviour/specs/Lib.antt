@@ -5,6 +5,7 @@ pub mod Gives
 pub mod Exists
 pub mod Unique
 pub mod Meaning
+pub mod Settled
 pub mod Fits
 pub mod Fitting
 pub mod ClockFits

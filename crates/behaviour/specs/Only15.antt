@@ -15,7 +15,7 @@ use Rattle.netlist.specs.File.{good, decode}
 use Rattle.netlist.specs.declared.Answer.the-variants.{Accepted, Refused}
 use Rattle.behaviour.specs.Run.{resetState, runOutputs}
 use Rattle.behaviour.specs.Runs.{Lent, inputWidths, outputWidths, stateWidths, fitting, takes, refusal, answer, after}
-use Rattle.behaviour.specs.ClockFits.{reset-fits, state-stays-fit}
+use Rattle.behaviour.specs.ClockFits.{holders-fit, reset-fits, state-stays-fit}
 use Rattle.behaviour.specs.States.{taken-fits}
 use Rattle.behaviour.specs.Service.{bytesOf, roomFor, fittingBytes, resetNet, resetFile, Ran, runNet, runFile, Entry, runsFile}
 use Rattle.behaviour.specs.WordBytes.{length-bytes, fitting-bytes}
@@ -52,7 +52,7 @@ module _ (N : Net) (wf : WellFormed N) where
 
   after-fits : (state : List ℕ) → fitting (stateWidths N) state ≡ true → (e : Lent) (b : Bool) → takes N e ≡ b → fitting (stateWidths N) (after (cond b 0 15) N state e) ≡ true
   unfolding after
-  after-fits state fit e true t = state-stays-fit N wf state (e .words) fit (taken-fits N e t)
+  after-fits state fit e true t = state-stays-fit N wf state (e .words) (holders-fit N state fit) (taken-fits N e t)
   after-fits state fit e false t = fit
 
   next-fitted : (st : List ℕ) → Fitted N st → (e : Entry) → Fitted N (runNet N st (e .inputs) (e .outputs) .state)

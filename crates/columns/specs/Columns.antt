@@ -96,13 +96,3 @@ module _ (N : Net) where
 
     pub code-small : (v : ℕ) → v < n → getD codes v 0 < 17
     code-small v h = omega (arith, t .code v h, code-few (elementAt N v))
-
--- ---- tests that agree below a number
-
-pub all-same : (n : ℕ) (q r : ℕ → Bool) → ((p : ℕ) → p < n → q p ≡ r p) → allBelow n q ≡ allBelow n r
-all-same zero q r h = refl
-all-same (suc n) q r h = ap₂ _&&_ (h n (omega arith)) (all-same n q r (λ p l. h p (omega arith)))
-
-pub any-same : (n : ℕ) (q r : ℕ → Bool) → ((p : ℕ) → p < n → q p ≡ r p) → anyBelow n q ≡ anyBelow n r
-any-same zero q r h = refl
-any-same (suc n) q r h = ap₂ _||_ (h n (omega arith)) (any-same n q r (λ p l. h p (omega arith)))

@@ -7,10 +7,10 @@ use native.Mathlib.Omega.{arith}
 use lib.ListN.{getD, replicate}
 use lib.Dec.{eqb}
 use Rattle.lists.specs.Lists.{anyBelow}
-use Rattle.lists.specs.BelowLaws.{countBelow-le}
+use Rattle.lists.specs.BelowLaws.{any-same, countBelow-le}
 use Rattle.netlist.specs.Net.{Class, Net, size, elementAt, source, Sourced}
 use Rattle.netlist.specs.Reach.{reachesItself}
-use Rattle.columns.specs.Columns.{Columns, source-is, any-same}
+use Rattle.columns.specs.Columns.{Columns, source-is}
 use Rattle.order.specs.Pass.{on, Waiting, swept-rest}
 use Rattle.cycles.specs.Spread.{touches, Reached, ReachedPass, reached-none, start-missed}
 

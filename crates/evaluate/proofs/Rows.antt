@@ -11,7 +11,7 @@ use Rattle.words.specs.Words.{word}
 use Rattle.netlist.specs.Net.{Net, size, widthAt}
 use Rattle.behaviour.specs.Service.{fittingBytes}
 use Rattle.evaluate.specs.Rows.{rowTest, rowMembers, rowWidths, Loaded}
-use Rattle.evaluate.specs.SelectLaws.{member, members-count}
+use Rattle.lists.specs.SelectLaws.{member, members-count}
 use Rattle.evaluate.specs.Loading.{Loading, load-none, load-take, load-other, load-wide, load-words, load-fits}
 use Rattle.evaluate.specs.declared.Row.{Row}
 

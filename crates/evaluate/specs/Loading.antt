@@ -18,7 +18,7 @@ use Rattle.behaviour.specs.Runs.{fitting}
 use Rattle.behaviour.specs.Fitting.{fitting-select, fitting-at}
 use Rattle.behaviour.specs.Service.{wordsIn, fittingBytes}
 use Rattle.behaviour.specs.WordBytes.{length-wordsIn}
-use Rattle.evaluate.specs.SelectLaws.{Member, some-member, select-at}
+use Rattle.lists.specs.SelectLaws.{Member, some-member, select-at}
 
 -- the numbers before the i-th that passes have their words, and no other number's word is touched
 pub record Loading (q : ℕ → Bool) (w : ℕ → ℕ) (b before after : List ℕ) (i : ℕ) : Type 0 where

@@ -21,7 +21,8 @@ use Rattle.behaviour.specs.Run.{gives-now, holderOf, contentsNow, again}
 use Rattle.behaviour.specs.Gives.{operate-cong}
 use Rattle.evaluate.specs.Rows.{rowTest, rowOf, RowFits}
 use Rattle.evaluate.specs.Clock.{loaded, nodeWord, OperandsFit, clockWords, Evaluated}
-use Rattle.evaluate.specs.ClockFits.{word-settled, word-fits}
+use Rattle.behaviour.specs.Settled.{settled}
+use Rattle.behaviour.specs.ClockFits as fits
 use Rattle.evaluate.specs.declared.Row.{Row}
 use Rattle.evaluate.specs.declared.Row.the-variants.{Inputs, State}
 
@@ -54,14 +55,14 @@ module _ (N : Net) (wf : WellFormed N) (ws : List ℕ) where
   loaded-word : (v : ℕ) → v < size N → loaded (elementAt N v) ≡ true → getD (clockWords N ws) v 0 ≡ getD ws v 0
   unfolding clockWords again portOf holderOf
   loaded-word v h t =
-      word-settled N wf (rowOf State N ws) (rowOf Inputs N ws) v h
+      settled N wf (rowOf State N ws) (rowOf Inputs N ws) v h
       ∙ own-word (contentsNow N (rowOf State N ws) v) (widthAt N v) (λ p. widthAt N (source N v p)) (getD ws v 0) (getD (rowOf Inputs N ws) (portOf N v) 0) (getD (rowOf State N ws) (holderOf N v) 0)
       (λ p. getD (clockWords N ws) (source N v p) 0) (elementAt N v) t (row-word Inputs v h) (row-word State v h)
 
   pub clock-fits : RowFits Inputs N ws → RowFits State N ws → (v : ℕ) → v < size N → getD (clockWords N ws) v 0 < 2 ^ widthAt N v
-  unfolding clockWords portOf holderOf
+  unfolding clockWords portOf holderOf fits.PortsFit fits.HoldersFit
   clock-fits a b =
-      word-fits N wf (rowOf State N ws) (rowOf Inputs N ws) (λ u h y. rw (row-word Inputs u h y) (a u h y)) (λ u h y. rw (row-word State u h y) (b u h y))
+      fits.clock-fits N wf (rowOf State N ws) (rowOf Inputs N ws) (λ u h y. rw (row-word State u h y) (b u h y)) (λ u h y. rw (row-word Inputs u h y) (a u h y))
 
 -- ---- the first i of the order are evaluated, and what was loaded is still there
 
@@ -109,7 +110,7 @@ module _ {N : Net} {order before after : List ℕ} {i : ℕ} (wf : WellFormed N)
           is
           ∙ now-same (contentsAt N v) (widthAt N v) (λ p. widthAt N (source N v p)) (getD after v 0) (getD (rowOf Inputs N before) (portOf N v) 0) (getD (rowOf State N before) (holderOf N v) 0)
           (λ p. getD after (source N v p) 0) (λ p. getD (clockWords N before) (source N v p) 0) (elementAt N v) new read-right
-          ∙ sym (word-settled N wf (rowOf State N before) (rowOf Inputs N before) v settle-inside)
+          ∙ sym (settled N wf (rowOf State N before) (rowOf Inputs N before) v settle-inside)
 
       here : (u : ℕ) → u ≡ v → getD (set after v x) u 0 ≡ getD (clockWords N before) u 0
       here u e =

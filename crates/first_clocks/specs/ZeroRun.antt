@@ -14,12 +14,11 @@ use Rattle.lists.specs.ListsLaws.{getD-select}
 use Rattle.netlist.specs.declared.Element.{Element}
 use Rattle.netlist.specs.declared.Element.the-variants.{Input, Output, Register, Async, Clocked, Gate}
 use Rattle.netlist.specs.declared.Node.{Node}
-use Rattle.netlist.specs.Net.{Net, size, nodeAt, elementAt, widthAt, source, gives, contentsAt, inClock, isInput, holdsWord, operands, portOf, Behaves, Ranked, Sourced}
-use Rattle.netlist.specs.Rank.{rounds, rounds-ranked, rounds-small}
+use Rattle.netlist.specs.Net.{Net, size, nodeAt, elementAt, widthAt, source, gives, contentsAt, isInput, holdsWord, operands, portOf, Behaves, Sourced}
 use Rattle.netlist.specs.Checks.{WellFormed}
 use Rattle.behaviour.specs.Run.{gives-now, holds-next, holds-first, holderOf, contentsNow, again, words, stateAt, runWord, zeroWord}
 use Rattle.behaviour.specs.Meaning.{settles, the-run-behaves}
-use Rattle.behaviour.specs.Exists.{words-settled, words-only}
+use Rattle.behaviour.specs.Settled.{settled, settled-once}
 use Rattle.behaviour.specs.Fits.{words-fit}
 use Rattle.evaluate.specs.Rows.{rowTest, rowOf, RowFits}
 use Rattle.evaluate.specs.Clock.{clockWords, Evaluated}
@@ -139,17 +138,6 @@ module _ (N : Net) (wf : WellFormed N) where
       λ v h e. subst (λ (x : ℕ). x < 2 ^ widthAt N v) (sym (l .at v h (holder-loaded (elementAt N v) e))) (zero-fits t v h),
     )
 
-    rank : ℕ → ℕ
-    rank = rounds inClock N
-
-    ranked : Ranked N rank
-    unfolding rank
-    ranked = rounds-ranked inClock N (wf .sourced) (settles N wf)
-
-    small : (v : ℕ) → v < size N → rank v < size N
-    unfolding rank
-    small = rounds-small inClock N (wf .sourced) (settles N wf)
-
     all : List ℕ
     all = words N (stateAt N (λ s. []) t) []
 
@@ -157,33 +145,33 @@ module _ (N : Net) (wf : WellFormed N) where
     unfolding all zeroWord runWord
     all-is v = refl
 
-    settled : (v : ℕ) → v < size N → getD all v 0 ≡ again N (stateAt N (λ s. []) t) [] all v
+    all-settled : (v : ℕ) → v < size N → getD all v 0 ≡ again N (stateAt N (λ s. []) t) [] all v
     unfolding all
-    settled = words-settled N rank (wf .sourced) ranked small (stateAt N (λ s. []) t) []
+    all-settled = settled N wf (stateAt N (λ s. []) t) []
 
     input-same : (v : ℕ) → v < size N → isInput (elementAt N v) ≡ true → getD [] (portOf N v) 0 ≡ getD (rowOf Inputs N ws) (portOf N v) 0
     unfolding portOf again
     input-same v h e =
         sym (now-input (contentsNow N (stateAt N (λ s. []) t) v) (widthAt N v) (λ p. widthAt N (source N v p)) (getD [] (portOf N v) 0) (getD (stateAt N (λ s. []) t) (holderOf N v) 0) (λ p. getD all (source N v p) 0) (elementAt N v) e)
-        ∙ sym (settled v h) ∙ all-is v ∙ sym (l .at v h (input-loaded (elementAt N v) e)) ∙ sym (getD-select (rowTest Inputs N) (λ k. getD ws k 0) (size N) v 0 h e)
+        ∙ sym (all-settled v h) ∙ all-is v ∙ sym (l .at v h (input-loaded (elementAt N v) e)) ∙ sym (getD-select (rowTest Inputs N) (λ k. getD ws k 0) (size N) v 0 h e)
 
     holder-same : (v : ℕ) → v < size N → holdsWord (elementAt N v) ≡ true → getD (stateAt N (λ s. []) t) (holderOf N v) 0 ≡ getD (rowOf State N ws) (holderOf N v) 0
     unfolding holderOf again
     holder-same v h e =
         sym (now-holder (contentsNow N (stateAt N (λ s. []) t) v) (widthAt N v) (λ p. widthAt N (source N v p)) (getD [] (portOf N v) 0) (getD (stateAt N (λ s. []) t) (holderOf N v) 0) (λ p. getD all (source N v p) 0) (elementAt N v) e)
-        ∙ sym (settled v h) ∙ all-is v ∙ sym (l .at v h (holder-loaded (elementAt N v) e)) ∙ sym (getD-select (rowTest State N) (λ k. getD ws k 0) (size N) v 0 h e)
+        ∙ sym (all-settled v h) ∙ all-is v ∙ sym (l .at v h (holder-loaded (elementAt N v) e)) ∙ sym (getD-select (rowTest State N) (λ k. getD ws k 0) (size N) v 0 h e)
 
     still : (v : ℕ) → v < size N → getD all v 0 ≡ again N (rowOf State N ws) (rowOf Inputs N ws) all v
     unfolding again contentsNow
     still v h =
-        settled v h
+        all-settled v h
         ∙ now-alike (contentsAt N v) (widthAt N v) (λ p. widthAt N (source N v p)) (getD [] (portOf N v) 0) (getD (rowOf Inputs N ws) (portOf N v) 0) (getD (stateAt N (λ s. []) t) (holderOf N v) 0)
         (getD (rowOf State N ws) (holderOf N v) 0) (λ p. getD all (source N v p) 0) (elementAt N v) (input-same v h) (holder-same v h)
 
     -- evaluated they are the words of the clock
     pub words-at : {ws′ : List ℕ} → Evaluated N ws ws′ → WordsAt N t ws′
     unfolding clockWords
-    words-at e v h = e .each v h ∙ sym (words-only N rank (wf .sourced) ranked small (rowOf State N ws) (rowOf Inputs N ws) all still v h) ∙ all-is v
+    words-at e v h = e .each v h ∙ sym (settled-once N wf (rowOf State N ws) (rowOf Inputs N ws) all still v h) ∙ all-is v
 
   -- ---- and after it
 

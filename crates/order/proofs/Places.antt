@@ -9,11 +9,12 @@ use lib.ListN.{getD, set}
 use lib.Dec.{eqb}
 use borrow.Author.Tests.{le-ltb}
 use Rattle.lists.specs.Lists.{one, allBelow}
+use Rattle.lists.specs.BelowLaws.{all-same}
 use Rattle.netlist.specs.Net.{Class, Net, size, elementAt, source, isRegister, Sourced}
 use Rattle.netlist.specs.declared.Element.{Element}
 use Rattle.netlist.specs.declared.Element.the-variants.{Input, Output, Register, Async, Clocked, Gate}
 use Rattle.nodes.specs.Code.{codeOf}
-use Rattle.columns.specs.Columns.{Columns, source-is, all-same}
+use Rattle.columns.specs.Columns.{Columns, source-is}
 use Rattle.order.specs.Pass.{on, Waiting, once-more, swept-rest}
 use Rattle.order.specs.Order.{Placed, Clear, ready, PlacedOnce, PlacedPass}
 use Rattle.order.specs.OrderLaws.{placed-more, placed-free, clear-more, full}

@@ -1,10 +1,10 @@
 // The nodes of the rewritten netlist that are no registers, in the file's order: an old node that is no register once, a ROM once for each different reset word.
-use wiring::memory_bit;
 use areas::number_at;
 use areas::put_number;
 use columns::kinds::code_of;
 use columns::kinds::is_kind;
 use index::wide;
+use wiring::memory_bit;
 ghost use mathlib.Core.Path.{_≡_};
 ghost use Prim.Native.Nat.{_+_, _<_, _≤_};
 ghost use lib.ListN.{length, set};

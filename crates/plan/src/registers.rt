@@ -1,9 +1,9 @@
 // The registers of the rewritten netlist: those of each wire, by reader, by operand, from source to reader; and what each entry reads.
 use super::entries::find_from;
-use wiring::count_on;
 use areas::number_at;
 use areas::put_number;
 use index::wide;
+use wiring::count_on;
 ghost use mathlib.Core.Path.{_≡_};
 ghost use Prim.Native.Nat.{_+_, _*_, _<_, _≤_};
 ghost use lib.ListN.{length, getD};

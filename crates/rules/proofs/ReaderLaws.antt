@@ -12,7 +12,7 @@ use lib.Seq.{getD-set-same, getD-set-other}
 use lib.Dec.{eqb, ltb}
 use borrow.Author.Tests.{lt-ltb}
 use Rattle.lists.specs.Lists.{anyBelow, one}
-use Rattle.lists.specs.BelowLaws.{true-or-false, lt-or-le, eqb-true, eqb-differ, anyBelow-intro}
+use Rattle.lists.specs.BelowLaws.{any-same, true-or-false, lt-or-le, eqb-true, eqb-differ, anyBelow-intro}
 use Rattle.netlist.specs.Net.{Net, size, elementAt, source, operands, isInput, isOutput}
 use Rattle.netlist.specs.Reach.{readsTest}
 use Rattle.netlist.specs.Verdict.{unread}
@@ -20,7 +20,7 @@ use Rattle.netlist.specs.declared.Element.{Element}
 use Rattle.netlist.specs.declared.Element.the-variants.{Input, Output, Register, Async, Clocked, Gate}
 use Rattle.netlist.specs.NodeField.{opNumber}
 use Rattle.nodes.specs.Code.{codeOf}
-use Rattle.columns.specs.Columns.{Columns, source-is, any-same}
+use Rattle.columns.specs.Columns.{Columns, source-is}
 use Rattle.rules.specs.OrFirst.{OrFirst}
 use Rattle.rules.specs.Marks.{Marks, Marked}
 

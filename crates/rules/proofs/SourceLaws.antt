@@ -8,13 +8,14 @@ use lib.ListN.{length, getD}
 use lib.Dec.{eqb, ltb}
 use borrow.Author.Tests.{ne-eqb, lt-ltb, le-ltb}
 use Rattle.lists.specs.Lists.{anyBelow}
+use Rattle.lists.specs.BelowLaws.{any-same}
 use Rattle.netlist.specs.Net.{Table, Net, elementAt, source, operands, isOutput, isMemory, tableOf}
 use Rattle.netlist.specs.Verdict.{tableThere, noSource, badSource}
 use Rattle.netlist.specs.declared.Element.{Element}
 use Rattle.netlist.specs.declared.Element.the-variants.{Input, Output, Register, Async, Clocked, Gate}
 use Rattle.netlist.specs.NodeField.{opNumber}
 use Rattle.nodes.specs.Code.{codeOf}
-use Rattle.columns.specs.Columns.{Columns, source-is, any-same}
+use Rattle.columns.specs.Columns.{Columns, source-is}
 
 -- what the code tells: an output port, and that there is no table to look for
 pub output-code : (e : Element) → eqb (codeOf e) 1 ≡ isOutput e

@@ -10,7 +10,7 @@ use Rattle.netlist.specs.declared.Element.{Element}
 use Rattle.netlist.specs.declared.Element.the-variants.{Input, Output, Register, Async, Clocked, Gate}
 use Rattle.behaviour.specs.Run.{holds-next, contentsNow, words, nextState, runOutputs, runState}
 use Rattle.behaviour.specs.Service.{wordsIn}
-use Rattle.evaluate.specs.SelectLaws.{select-same, members-map}
+use Rattle.lists.specs.SelectLaws.{select-same, members-map}
 use Rattle.evaluate.specs.Rows.{rowTest, rowMembers, rowOf, RowFits, Loaded}
 use Rattle.evaluate.specs.Clock.{clockWords, Evaluated}
 use Rattle.evaluate.specs.Settling.{clock-fits}

@@ -14,7 +14,7 @@ use Rattle.behaviour.specs.Run.{resetState, runOutputs, runState}
 use Rattle.behaviour.specs.Runs.{inputWidths, outputWidths, stateWidths, fitting}
 use Rattle.behaviour.specs.Service.{bytesOf, wordsIn, roomFor, fittingBytes, Filled, resetNet, Ran, runNet}
 use Rattle.evaluate.specs.Rows.{rowTest, rowMembers, rowWidths}
-use Rattle.evaluate.specs.SelectLaws.{members-count}
+use Rattle.lists.specs.SelectLaws.{members-count}
 use Rattle.evaluate.specs.declared.Row.{Row}
 use Rattle.evaluate.specs.declared.Row.the-variants.{Inputs, Outputs, State}
 

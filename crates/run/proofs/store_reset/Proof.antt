@@ -12,7 +12,7 @@ use Rattle.netlist.specs.declared.Node.{Node}
 use Rattle.behaviour.specs.Run.{holds-first, resetState}
 use Rattle.behaviour.specs.Service.{bytesOf}
 use Rattle.evaluate.specs.Rows.{rowTest}
-use Rattle.evaluate.specs.SelectLaws.{member, members-map}
+use Rattle.lists.specs.SelectLaws.{member, members-map}
 use Rattle.evaluate.specs.declared.Row.the-variants.{State}
 use Rattle.run.proofs.Filling.{Filling, fill-none, fill-put, fill-room, fill-kept, fill-all}
 use Rattle.run.proofs.store_reset.Statement.{statement}

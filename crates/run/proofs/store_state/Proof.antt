@@ -11,7 +11,7 @@ use Rattle.netlist.specs.FileLaws.{size-in}
 use Rattle.behaviour.specs.Run.{contentsNow, nextState}
 use Rattle.behaviour.specs.Service.{bytesOf}
 use Rattle.evaluate.specs.Rows.{rowTest}
-use Rattle.evaluate.specs.SelectLaws.{member, members-map}
+use Rattle.lists.specs.SelectLaws.{member, members-map}
 use Rattle.evaluate.specs.declared.Row.the-variants.{State}
 use Rattle.run.specs.Next.{nextWord}
 use Rattle.run.proofs.Filling.{Filling, fill-none, fill-put, fill-room, fill-kept, fill-all}

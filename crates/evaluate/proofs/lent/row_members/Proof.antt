@@ -9,7 +9,7 @@ use Rattle.netlist.specs.Net.{size}
 use Rattle.netlist.specs.File.{netIn}
 use Rattle.netlist.specs.FileLaws.{size-in}
 use Rattle.evaluate.specs.Rows.{rowTest}
-use Rattle.evaluate.specs.SelectLaws.{list-more}
+use Rattle.lists.specs.SelectLaws.{list-more}
 use Rattle.evaluate.proofs.lent.row_members.Statement.{statement}
 use Rattle.evaluate.proofs.lent.row_members.Tie as tie
 
