@@ -85,47 +85,68 @@ fn rank_chain(sources: &[u16], start: usize, chain: Chain, ranks: &mut [u16])
     }
 }
 
-// Ranks 1 the registers among the first n nodes that read no register, and lists those that do. Both stand among the others in no order, so there is
+// A rank that stands, or another where there is none yet.
+fn rank_or(rank: u16, other: u16) -> u16 {
+    if rank == 0 { other } else { rank }
+}
+
+// Of 64 nodes from one on: ranks 1 the registers that read no register, and lists those that do. Both stand among the others in no order, so there is
 // no branch on them: each node is put on the list, and the next one over it unless it stays.
 fn list_chained(
     codes: &[u8],
     sources: &[u16],
-    n: usize,
+    from: usize,
     ranks: &mut [u16],
     list: &mut [u16],
 ) -> usize
-    requires { ⌜ n ≤ 1024 ⌝ }
-    ensures { λ r. ⌜ r ≤ 1024 ⌝ }
+    requires { ⌜ from ≤ 1024 ⌝ }
+    ensures { λ r. ⌜ r ≤ 64 ⌝ }
 {
     let mut count: usize = 0;
-    let mut v: usize = 0;
-    while v < n {
+    let mut i: usize = 0;
+    while i < 64 {
+        let v = from + i;
         let register = is_kind(code_of(codes, v), 2);
         let read = is_kind(code_of(codes, wide(number_at(sources, 3 * v))), 2);
         let chained = both(register, read);
-        put_number(ranks, v, (register - chained) as u16);
+        put_number(
+            ranks,
+            v,
+            rank_or(number_at(ranks, v), (register - chained) as u16),
+        );
         put_number(list, count, v as u16);
         count = count + chained;
-        v = v + 1;
+        i = i + 1;
     }
     count
 }
 
-// Ranks all registers among the first n nodes.
-fn rank_registers(codes: &[u8], sources: &[u16], n: usize, ranks: &mut [u16])
-    requires { ⌜ n ≤ 1024 ⌝ }
+// Ranks the registers on a list.
+fn rank_listed(codes: &[u8], sources: &[u16], list: &[u16], count: usize, ranks: &mut [u16])
+    requires { ⌜ count ≤ 64 ⌝ }
 {
-    let mut list = [0u16; 1024];
-    let count = list_chained(codes, sources, n, ranks, &mut list);
     let mut i: usize = 0;
     while i < count {
-        let v = wide(number_at(&list, i));
+        let v = wide(number_at(list, i));
         // It may have a rank from a chain before.
         if number_at(ranks, v) == 0 {
             let chain = mark_chain(codes, sources, v, ranks);
             rank_chain(sources, v, chain, ranks);
         }
         i = i + 1;
+    }
+}
+
+// Ranks all registers among the first n nodes, 64 nodes at a time.
+fn rank_registers(codes: &[u8], sources: &[u16], n: usize, ranks: &mut [u16])
+    requires { ⌜ n ≤ 1024 ⌝ }
+{
+    let mut list = [0u16; 64];
+    let mut from: usize = 0;
+    while from < n {
+        let count = list_chained(codes, sources, from, ranks, &mut list);
+        rank_listed(codes, sources, &list, count, ranks);
+        from = from + 64;
     }
 }
 

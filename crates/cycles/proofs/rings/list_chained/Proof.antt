@@ -1,5 +1,5 @@
 -- The loop's invariant: the ranks and the list keep their number, and no more are listed than nodes are passed.
-use mathlib.Core.Path.{_≡_, refl, _∙_}
+use mathlib.Core.Path.{_≡_}
 use Prim.Native.Nat.{_-_, _≤_}
 use native.Mathlib.Omega.{arith}
 use lib.ListN.{length}
@@ -8,13 +8,16 @@ use Rattle.cycles.proofs.rings.list_chained.Statement.{statement}
 use Rattle.cycles.proofs.rings.list_chained.Tie as tie
 
 abbrev Inv-loop : tie.InvT-loop
-Inv-loop codes sources n ranks₀ list₀ count₀ v₀ ranks list count v = (length ranks ≡ length ranks₀) × (length list ≡ length list₀) × (count ≤ v) × (v ≤ n)
+Inv-loop codes sources from ranks₀ list₀ count₀ i₀ ranks list count i = (length ranks ≡ length ranks₀) × (length list ≡ length list₀) × (count ≤ i) × (i ≤ 64)
 
 abbrev μ-loop : tie.MeasureT-loop
-μ-loop codes sources n ranks₀ list₀ count₀ v₀ ranks list count v = n - v
+μ-loop codes sources from ranks₀ list₀ count₀ i₀ ranks list count i = 64 - i
 
 loop-holds : tie.Need-loop-holds Inv-loop μ-loop
 loop-holds c = omega arith
+
+add-v : tie.Need-add-v Inv-loop μ-loop
+add-v c = omega arith
 
 code-of-requires : tie.Need-code-of-requires Inv-loop μ-loop
 code-of-requires c κs = search needs
@@ -40,17 +43,23 @@ is-kind-requires-2 c κs = search needs
 both-requires : tie.Need-both-requires Inv-loop μ-loop
 both-requires c κs = search needs
 
-sub-put-number : tie.Need-sub-put-number Inv-loop μ-loop
-sub-put-number c = omega arith
+number-at-requires-2 : tie.Need-number-at-requires-2 Inv-loop μ-loop
+number-at-requires-2 c κs = search needs
 
-cast-put-number : tie.Need-cast-put-number Inv-loop μ-loop
-cast-put-number c = omega arith
+sub-rank-or : tie.Need-sub-rank-or Inv-loop μ-loop
+sub-rank-or c = omega arith
+
+cast-rank-or : tie.Need-cast-rank-or Inv-loop μ-loop
+cast-rank-or c = omega arith
+
+rank-or-requires : tie.Need-rank-or-requires Inv-loop μ-loop
+rank-or-requires c κs = search needs
 
 put-number-requires : tie.Need-put-number-requires Inv-loop μ-loop
 put-number-requires c κs = search needs
 
-cast-put-number-2 : tie.Need-cast-put-number-2 Inv-loop μ-loop
-cast-put-number-2 c = omega arith
+cast-put-number : tie.Need-cast-put-number Inv-loop μ-loop
+cast-put-number c = omega arith
 
 put-number-requires-2 : tie.Need-put-number-requires-2 Inv-loop μ-loop
 put-number-requires-2 c κs = search needs
@@ -58,8 +67,8 @@ put-number-requires-2 c κs = search needs
 add-count : tie.Need-add-count Inv-loop μ-loop
 add-count c = omega arith
 
-add-v : tie.Need-add-v Inv-loop μ-loop
-add-v c = omega arith
+add-i : tie.Need-add-i Inv-loop μ-loop
+add-i c = omega arith
 
 loop-less : tie.Need-loop-less Inv-loop μ-loop
 loop-less c = omega arith
@@ -83,6 +92,7 @@ list-chained-spec =
     Inv-loop
     μ-loop
     loop-holds
+    add-v
     code-of-requires
     is-kind-requires
     mul-number-at
@@ -91,13 +101,15 @@ list-chained-spec =
     code-of-requires-2
     is-kind-requires-2
     both-requires
-    sub-put-number
-    cast-put-number
+    number-at-requires-2
+    sub-rank-or
+    cast-rank-or
+    rank-or-requires
     put-number-requires
-    cast-put-number-2
+    cast-put-number
     put-number-requires-2
     add-count
-    add-v
+    add-i
     loop-less
     loop-again
     same-length

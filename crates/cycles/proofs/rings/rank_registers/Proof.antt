@@ -1,8 +1,6 @@
--- The loop's invariant: the ranks keep their number.
-use mathlib.Core.Path.{_≡_, refl, ap, _∙_}
-use mathlib.Core.Logic.{⊎-elim}
-use mathlib.Core.List.{List}
-use Prim.Native.Nat.{ℕ, _-_, _≤_}
+-- The loop's invariant: the ranks and the list keep their number.
+use mathlib.Core.Path.{_≡_}
+use Prim.Native.Nat.{_-_}
 use native.Mathlib.Omega.{arith}
 use lib.ListN.{length}
 use borrow.Author.Needs.{needs}
@@ -10,10 +8,13 @@ use Rattle.cycles.proofs.rings.rank_registers.Statement.{statement}
 use Rattle.cycles.proofs.rings.rank_registers.Tie as tie
 
 abbrev Inv-loop : tie.InvT-loop
-Inv-loop codes sources n ranks₀ list count i₀ ranks i = (length ranks ≡ length ranks₀) × (i ≤ count)
+Inv-loop codes sources n ranks₀ list₀ from₀ ranks list from = (length ranks ≡ length ranks₀) × (length list ≡ 64)
 
 abbrev μ-loop : tie.MeasureT-loop
-μ-loop codes sources n ranks₀ list count i₀ ranks i = count - i
+μ-loop codes sources n ranks₀ list₀ from₀ ranks list from = n - from
+
+loop-holds : tie.Need-loop-holds Inv-loop μ-loop
+loop-holds c = omega arith
 
 slice-aggregate-list-chained : tie.Need-slice-aggregate-list-chained Inv-loop μ-loop
 slice-aggregate-list-chained c = omega arith
@@ -21,37 +22,20 @@ slice-aggregate-list-chained c = omega arith
 list-chained-requires : tie.Need-list-chained-requires Inv-loop μ-loop
 list-chained-requires c κs = search needs
 
-loop-holds : tie.Need-loop-holds Inv-loop μ-loop
-loop-holds c = omega arith
+slice-aggregate-rank-listed : tie.Need-slice-aggregate-rank-listed Inv-loop μ-loop
+slice-aggregate-rank-listed c = omega arith
 
-slice-aggregate-number-at : tie.Need-slice-aggregate-number-at Inv-loop μ-loop
-slice-aggregate-number-at c = omega arith
+rank-listed-requires : tie.Need-rank-listed-requires Inv-loop μ-loop
+rank-listed-requires c κs = search needs
 
-number-at-requires : tie.Need-number-at-requires Inv-loop μ-loop
-number-at-requires c κs = search needs
-
-wide-requires : tie.Need-wide-requires Inv-loop μ-loop
-wide-requires c κs = search needs
-
-number-at-requires-2 : tie.Need-number-at-requires-2 Inv-loop μ-loop
-number-at-requires-2 c κs = search needs
-
-mark-chain-requires : tie.Need-mark-chain-requires Inv-loop μ-loop
-mark-chain-requires c κs = search needs
-
-rank-chain-requires : tie.Need-rank-chain-requires Inv-loop μ-loop
-rank-chain-requires c κs = search needs
-
-add-i : tie.Need-add-i Inv-loop μ-loop
-add-i c = omega arith
+add-from : tie.Need-add-from Inv-loop μ-loop
+add-from c = omega arith
 
 loop-less : tie.Need-loop-less Inv-loop μ-loop
 loop-less c = omega arith
 
 loop-again : tie.Need-loop-again Inv-loop μ-loop
-loop-again c =
-    let inv = c .before .before .before .before .before .before .before .loop .inv .0 in
-    (⊎-elim (λ w. ap (λ (x : List ℕ). length x) (w .9) ∙ w .6 .kept .1 .1 .1 .0 ∙ w .2 .kept .1 .1 .1 .0 ∙ inv) (λ w. ap (λ (x : List ℕ). length x) (w .1) ∙ inv) (c .if1 .came), omega arith)
+loop-again c = omega arith
 
 same-length : tie.Need-same-length Inv-loop μ-loop
 same-length c = omega arith
@@ -65,16 +49,12 @@ rank-registers-spec =
     (tie.spec
     Inv-loop
     μ-loop
+    loop-holds
     slice-aggregate-list-chained
     list-chained-requires
-    loop-holds
-    slice-aggregate-number-at
-    number-at-requires
-    wide-requires
-    number-at-requires-2
-    mark-chain-requires
-    rank-chain-requires
-    add-i
+    slice-aggregate-rank-listed
+    rank-listed-requires
+    add-from
     loop-less
     loop-again
     same-length
