@@ -37,76 +37,78 @@ impl Vector {
     }
 }
 
-/// The folder named by `PUNQELIS_VECTORS`, or the project's own.
-pub fn folder() -> PathBuf {
+/// The file named by `PUNQELIS_VECTORS`, or the project's own.
+pub fn file() -> PathBuf {
     match std::env::var_os("PUNQELIS_VECTORS") {
-        Some(folder) => PathBuf::from(folder),
-        None => Path::new(env!("CARGO_MANIFEST_DIR")).join("../vectors/base"),
+        Some(file) => PathBuf::from(file),
+        None => Path::new(env!("CARGO_MANIFEST_DIR")).join("../vectors/base.txt"),
     }
 }
 
-/// All vectors of the folder, in the order of its index.
+/// All vectors of the file, in its order: a line `case NAME` begins each.
 pub fn all() -> Vec<Vector> {
-    let folder = folder();
-    let index = text(&folder.join("INDEX"));
-    let name = |line: &str| line.split(' ').next().unwrap_or_default().to_owned();
-    index.lines().map(|l| vector(&folder, name(l))).collect()
+    let file = file();
+    let text =
+        fs::read_to_string(&file).unwrap_or_else(|error| panic!("{}: {error}", file.display()));
+    let cases = text.split("case ").skip(1);
+    cases.map(vector).collect()
 }
 
-fn vector(folder: &Path, name: String) -> Vector {
-    let path = |extension: &str| folder.join(format!("{name}.{extension}"));
-    let rewritten = match path("out").exists() {
-        true => Ok(bytes(&path("out"))),
-        false => Err(refusal(text(&path("refused")).trim())),
-    };
-    let trace = path("trace").exists().then(|| {
-        let states = text(&path("states"));
-        let mut states = states.lines().map(hex);
-        let mut state = || states.next().expect("a state for reset and for each run");
-        let reset = state();
-        let run = |line: &str| {
-            let (inputs, result) = line.split_once("->").expect("an arrow");
-            let (inputs, result) = (inputs.trim(), result.trim());
-            Run {
-                inputs: hex(inputs),
-                outputs: match result.starts_with("refused") {
-                    true => Err(refusal(result)),
-                    false => Ok(hex(result)),
-                },
-                state: state(),
+/// One case: its name, and lines of a key and its values.
+fn vector(case: &str) -> Vector {
+    let mut lines = case.lines();
+    let name = lines.next().expect("a name").to_owned();
+    let mut file = None;
+    let mut rewritten = None;
+    let mut trace: Option<Trace> = None;
+    for line in lines {
+        let words: Vec<&str> = line.split(' ').collect();
+        match words[..] {
+            ["file", digits] => file = Some(hex(digits)),
+            ["rewrite", ref given @ ..] => rewritten = Some(answer(given)),
+            ["reset", digits] => {
+                trace = Some(Trace {
+                    reset: hex(digits),
+                    runs: Vec::new(),
+                })
             }
-        };
-        let runs = text(&path("trace")).lines().map(run).collect();
-        Trace { reset, runs }
-    });
+            ["run", inputs, ref given @ .., state] => {
+                let trace = trace.as_mut().expect("a reset before a run");
+                trace.runs.push(Run {
+                    inputs: hex(inputs),
+                    outputs: answer(given),
+                    state: hex(state),
+                });
+            }
+            _ => panic!("{name}: {line}"),
+        }
+    }
     Vector {
-        file: bytes(&path("net")),
-        rewritten,
+        file: file.expect("a file"),
+        rewritten: rewritten.expect("what rewriting answers"),
         trace,
         name,
     }
 }
 
-/// Reads `refused NUMBER PLACE`.
-fn refusal(line: &str) -> Refusal {
-    let mut numbers = line.split(' ').skip(1).map(|n| n.parse().expect(line));
-    let mut number = || numbers.next().expect(line);
-    Refusal {
-        number: number(),
-        place: number(),
+/// Bytes, or `refused NUMBER PLACE`.
+fn answer(words: &[&str]) -> Result<Vec<u8>, Refusal> {
+    match *words {
+        [digits] => Ok(hex(digits)),
+        ["refused", number, place] => Err(Refusal {
+            number: number.parse().expect(number),
+            place: place.parse().expect(place),
+        }),
+        _ => panic!("no answer: {words:?}"),
     }
 }
 
+/// Bytes in hexadecimal, `-` for none.
 fn hex(digits: &str) -> Vec<u8> {
-    let pairs = digits.as_bytes().chunks_exact(2);
+    if digits == "-" {
+        return Vec::new();
+    }
+    let pairs = digits.as_bytes().chunks(2);
     let pair = |pair| u8::from_str_radix(std::str::from_utf8(pair).expect(digits), 16);
     pairs.map(|p| pair(p).expect(digits)).collect()
-}
-
-fn bytes(path: &Path) -> Vec<u8> {
-    fs::read(path).unwrap_or_else(|error| panic!("{}: {error}", path.display()))
-}
-
-fn text(path: &Path) -> String {
-    String::from_utf8(bytes(path)).expect("vectors are text")
 }

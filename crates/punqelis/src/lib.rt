@@ -1,0 +1,77 @@
+// The exports for C hosts: include/punqelis.h declares them. A slice is a pointer and a length; the answer is one number.
+use checks::check_file;
+use netlist::Answer;
+use rewriter::rewrite_file;
+use run::reset_state;
+use run::run_clock;
+ghost use mathlib.Core.Path.{_≡_};
+ghost use Prim.Native.Nat.{_≤_};
+ghost use Rattle.netlist.specs.File.{checkAnswer};
+ghost use Rattle.behaviour.specs.Service.{resetFile, runFile};
+ghost use Rattle.retiming.specs.FileRewrite.{rewriteFile};
+ghost use Rattle.punqelis.specs.Code.{codeOf};
+ghost use Rattle.punqelis.specs.CodeLaws.{Within};
+
+fn wide8(x: u8) -> u32
+    ensures { λ r. ⌜ (r ≡ x) × (r ≤ 255) ⌝ }
+{
+    x as u32
+}
+
+fn wide16(x: u16) -> u32
+    ensures { λ r. ⌜ (r ≡ x) × (r ≤ 65535) ⌝ }
+{
+    x as u32
+}
+
+// The number of an answer whose length is no more than a file's.
+fn code(a: Answer) -> u32
+    requires { ⌜ Within 65535 a ⌝ }
+    ensures { λ r. ⌜ r ≡ codeOf a ⌝ }
+{
+    match a {
+        Answer::Accepted(n) => n as u32,
+        Answer::Refused(number, place) => wide8(number) * 65536 + wide16(place),
+    }
+}
+
+// Checks a netlist file (1 to 10): its length, or the refusal.
+#[no_mangle]
+pub extern "C" fn punqelis_check(file: &[u8]) -> u32
+    ensures { λ r. ⌜ r ≡ codeOf (checkAnswer (now (file .entry))) ⌝ }
+{
+    code(check_file(file))
+}
+
+// Fills a state with the reset words: its length, or the refusal, which leaves the state as it was.
+#[no_mangle]
+pub extern "C" fn punqelis_reset(file: &[u8], state: &mut [u8]) -> u32
+    ensures { λ r. ⌜ (r ≡ codeOf (resetFile (now (file .entry)) (now (state .entry)) .answer))
+        × (now (state .exit) ≡ resetFile (now (file .entry)) (now (state .entry)) .state) ⌝ }
+{
+    code(reset_state(file, state))
+}
+
+// Runs one clock: the length of the outputs, or the refusal, which leaves state and outputs as they were.
+#[no_mangle]
+pub extern "C" fn punqelis_run(
+    file: &[u8],
+    state: &mut [u8],
+    inputs: &[u8],
+    outputs: &mut [u8],
+) -> u32
+    ensures { λ r. ⌜ (r ≡ codeOf (runFile (now (file .entry)) (now (state .entry)) (now (inputs .entry)) (now (outputs .entry)) .answer))
+        × (now (state .exit) ≡ runFile (now (file .entry)) (now (state .entry)) (now (inputs .entry)) (now (outputs .entry)) .state)
+        × (now (outputs .exit) ≡ runFile (now (file .entry)) (now (state .entry)) (now (inputs .entry)) (now (outputs .entry)) .outputs) ⌝ }
+{
+    code(run_clock(file, state, inputs, outputs))
+}
+
+// Rewrites a file so that all its ROMs are clocked: the new file's length, or the refusal, which leaves the output as it was.
+#[no_mangle]
+pub extern "C" fn punqelis_rewrite(file: &[u8], out: &mut [u8]) -> u32
+    ensures { λ r. ⌜ (r ≡ codeOf (rewriteFile (now (file .entry)) (now (out .entry)) .answer))
+        × (now (out .exit) ≡ rewriteFile (now (file .entry)) (now (out .entry)) .out) ⌝ }
+{
+    code(rewrite_file(file, out))
+}
