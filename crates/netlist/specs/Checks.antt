@@ -85,9 +85,8 @@ pub record TableFits (t : Table) : Type 0 where
   pub all-words : length (spelled t) ≡ 2 ^ t .bits
   pub each-fits : (a : ℕ) → a < length (spelled t) → getD (spelled t) a 0 < 2 ^ t .wide
 
--- what 4, 5 and 13 leave of sizes
+-- what 5 and 13 leave of sizes. (How many tables there may be is a limit of the file: codec, Within.)
 pub record Bounds (N : Net) : Type 0 where
-  pub tables : length (N .tables) ≤ 16
   pub nodes : size N ≤ 1024
 
 -- what 1 to 5 leave

@@ -1,9 +1,7 @@
 -- Worked files: document 01's adder and some corners of the format, computed by the definitions. Assumes nothing.
 use mathlib.Core.Path.{_≡_, refl}
-use mathlib.Core.Bool.{true}
-use mathlib.Core.List.{List, [], _∷_, _++_}
+use mathlib.Core.List.{List, [], _∷_}
 use Prim.Native.Nat.{ℕ}
-use Rattle.lists.specs.Lists.{same}
 use Rattle.lists.specs.Paths.{pick}
 use Rattle.words.specs.declared.Op.the-variants.{Add}
 use Rattle.netlist.specs.Net.{Words, Net, rom, nodeAt, elementAt, widthAt, source, spelled}

@@ -17,8 +17,7 @@ use Rattle.netlist.specs.Reach.{reachesItself}
 use Rattle.netlist.specs.ReachLaws.{reaches-itself-iff}
 use Rattle.netlist.specs.Verdict.{badSource, badWidth, unread, inLoop, inRing, atLowest, Stage, verdict, readerStages, readerVerdict}
 use Rattle.netlist.specs.VerdictLaws.{six-sourced}
-use Rattle.netlist.specs.declared.Verdict.{Verdict}
-use Rattle.netlist.specs.declared.Verdict.the-variants.{Fine, Refuses}
+use Rattle.netlist.specs.declared.Verdict.the-variants.{Refuses}
 
 -- v reaches itself by steps of the class, and no lower node does
 pub record LowestThrough (K : Class) (N : Net) (v : ℕ) : Type 0 where

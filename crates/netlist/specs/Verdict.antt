@@ -1,7 +1,7 @@
 -- Checks as a list of stages, and the reader's: the refusals 6 to 10 of a netlist whose fields are in order (1 to 5), each with its place, in checking order. Assumes nothing.
 use mathlib.Core.Bool.{Bool, true, false, not, _&&_, _||_}
 use mathlib.Core.List.{List, [], _∷_}
-use Prim.Native.Nat.{ℕ, _+_, _^_}
+use Prim.Native.Nat.{ℕ, _+_}
 use lib.ListN.{length, getD}
 use lib.Dec.{eqb, leb, ltb}
 use Rattle.words.specs.declared.Op.{Op}
@@ -11,8 +11,8 @@ use Rattle.netlist.specs.declared.Element.{Element}
 use Rattle.netlist.specs.declared.Verdict.{Verdict}
 use Rattle.netlist.specs.declared.Verdict.the-variants.{Fine, Refuses}
 use Rattle.netlist.specs.declared.Element.the-variants.{Input, Output, Register, Async, Clocked, Gate}
-use Rattle.lists.specs.Lists.{anyBelow, allBelow, lowest}
-use Rattle.netlist.specs.Net.{Body, Words, Table, noTable, tableNo, Net, size, elementAt, widthAt, source, operands, isInput, isOutput, inRegisters, inClock}
+use Rattle.lists.specs.Lists.{anyBelow, lowest}
+use Rattle.netlist.specs.Net.{Table, noTable, tableNo, Net, size, elementAt, widthAt, source, operands, isInput, isOutput, inRegisters, inClock}
 use Rattle.netlist.specs.Reach.{readsTest, reachesItself}
 
 -- 6: no such node or table, or an output port as source
@@ -96,39 +96,3 @@ readerStages N = atLowest 6 (size N) (badSource N) ∷ atLowest 7 (size N) (badW
 
 unfoldable pub readerVerdict : Net → Verdict
 readerVerdict N = verdict (readerStages N)
-
--- ---- what 4 and 5 ask of tables and nodes, computed
-
-abbrev pub opFits : Op → ℕ → Bool
-opFits (Constant c) w = ltb c (2 ^ w)
-opFits Not w = true
-opFits And w = true
-opFits Or w = true
-opFits Xor w = true
-opFits Add w = true
-opFits Subtract w = true
-opFits Equal w = true
-opFits Less w = true
-opFits Choose w = true
-opFits (Part b) w = true
-opFits Join w = true
-
-abbrev pub wordFits : Element → ℕ → Bool
-wordFits Input w = true
-wordFits Output w = true
-wordFits (Register r) w = ltb r (2 ^ w)
-wordFits (Async m) w = true
-wordFits (Clocked m r) w = ltb r (2 ^ w)
-wordFits (Gate o) w = opFits o w
-
-abbrev pub bodyFits : Body → ℕ → ℕ → Bool
-bodyFits (Words l) n m = eqb (length l) n && allBelow (length l) (λ a. ltb (getD l a 0) m)
-
-unfoldable pub goodTable : Table → Bool
-goodTable t = (leb 1 (t .bits) && leb (t .bits) 10) && ((leb 1 (t .wide) && leb (t .wide) 16) && bodyFits (t .body) (2 ^ t .bits) (2 ^ t .wide))
-
-unfoldable pub goodNode : Net → ℕ → Bool
-goodNode N v = (leb 1 (widthAt N v) && leb (widthAt N v) 16) && wordFits (elementAt N v) (widthAt N v)
-
-unfoldable pub goodFields : Net → Bool
-goodFields N = (leb (length (N .tables)) 16 && allBelow (length (N .tables)) (λ m. goodTable (getD (N .tables) m noTable))) && (leb (size N) 1024 && allBelow (size N) (goodNode N))

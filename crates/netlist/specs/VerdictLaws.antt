@@ -1,26 +1,26 @@
 -- The reader finds nothing to refuse just where the netlist is well formed. Assumes nothing.
 use mathlib.Core.Path.{_≡_, refl, sym, ap, _∙_}
-use mathlib.Core.Logic.{_⊎_, ⊎-elim}
+use mathlib.Core.Logic.{⊎-elim}
 use mathlib.Core.Bool.{Bool, true, false, not, _&&_, _||_, true≢false, false≢true}
 use mathlib.Core.List.{List, [], _∷_}
-use Prim.Native.Nat.{ℕ, _+_, _^_, _≤_, _<_}
+use Prim.Native.Nat.{ℕ, _+_, _<_}
 use native.Mathlib.Omega.{arith}
-use lib.ListN.{length, getD}
-use lib.Dec.{eqb, leb, ltb, leb→le, le→leb, ltb→lt, lt→ltb}
+use lib.ListN.{length}
+use lib.Dec.{eqb, ltb, leb→le, le→leb, ltb→lt, lt→ltb}
 use Rattle.words.specs.declared.Op.{Op}
 use Rattle.words.specs.declared.Op.the-variants.{Constant, Not, And, Or, Xor, Add, Subtract, Equal, Less, Choose, Part, Join}
 use Rattle.netlist.specs.declared.Memory.{Memory}
 use Rattle.netlist.specs.declared.Element.{Element}
 use Rattle.netlist.specs.declared.Element.the-variants.{Input, Output, Register, Async, Clocked, Gate}
-use Rattle.lists.specs.Lists.{anyBelow, allBelow, lowest}
-use Rattle.lists.specs.BelowLaws.{T→true, true→T, true-or-false, and-left, and-right, eqb-true, eqb-self, anyBelow-intro, anyBelow-elim, anyBelow-none, allBelow-elim, lowest-none, lowest-all}
-use Rattle.netlist.specs.Net.{Body, Words, Table, tableNo, spelledIn, spelled, Net, size, elementAt, widthAt, source, operands, isInput, isOutput, Class, inRegisters, inClock, Sourced}
+use Rattle.lists.specs.Lists.{anyBelow, lowest}
+use Rattle.lists.specs.BelowLaws.{T→true, true→T, true-or-false, and-left, and-right, eqb-true, eqb-self, anyBelow-intro, anyBelow-elim, anyBelow-none, lowest-none, lowest-all}
+use Rattle.netlist.specs.Net.{Table, tableNo, Net, size, elementAt, widthAt, source, operands, isInput, isOutput, Class, inRegisters, inClock, Sourced}
 use Rattle.netlist.specs.Reach.{Reads, readsTest}
 use Rattle.netlist.specs.Reach.{reachesItself}
 use Rattle.netlist.specs.declared.Verdict.the-variants.{Fine, Refuses}
-use Rattle.netlist.specs.Verdict.{tableThere, badSource, opWidths, memoryRight, widthsRight, badWidth, unread, inLoop, inRing, Stage, verdict, readerStages, readerVerdict, opFits, wordFits, bodyFits, goodTable, goodNode, goodFields}
+use Rattle.netlist.specs.Verdict.{tableThere, badSource, opWidths, memoryRight, widthsRight, badWidth, unread, inLoop, inRing, Stage, verdict, readerStages, readerVerdict}
 use Rattle.netlist.specs.Rank.{Through, once, then}
-use Rattle.netlist.specs.Checks.{OpWidths, OpFits, MemoryWidths, Widths, HasTable, tableIn, TableFits, Fits, FieldsFit, WellFormed}
+use Rattle.netlist.specs.Checks.{OpWidths, MemoryWidths, Widths, HasTable, tableIn, FieldsFit, WellFormed}
 use Rattle.netlist.specs.ReachLaws.{reaches-itself-iff}
 
 eqb-from : {m n : ℕ} → m ≡ n → eqb m n ≡ true
@@ -238,82 +238,3 @@ module _ (N : Net) where
     nine = λ v h. ⊎-elim (λ t. absurd (wf .no-loop v (reaches-itself-iff inClock N (wf .sourced) v h .0 t))) (λ t. t) (true-or-false (reachesItself inClock N v));
     ten = λ v h. ⊎-elim (λ t. absurd (wf .no-ring v (reaches-itself-iff inRegisters N (wf .sourced) v h .0 t))) (λ t. t) (true-or-false (reachesItself inRegisters N v));
   })
-
--- ---- 4 and 5
-
-op-fits : (o : Op) (w : ℕ) → opFits o w ≡ true → OpFits o w
-op-fits (Constant c) w e = ltb→lt c (2 ^ w) (true→T e)
-op-fits Not w e = tt
-op-fits And w e = tt
-op-fits Or w e = tt
-op-fits Xor w e = tt
-op-fits Add w e = tt
-op-fits Subtract w e = tt
-op-fits Equal w e = tt
-op-fits Less w e = tt
-op-fits Choose w e = tt
-op-fits (Part b) w e = tt
-op-fits Join w e = tt
-
-word-fits : (e : Element) (w : ℕ) → wordFits e w ≡ true → Fits e w
-word-fits Input w h = tt
-word-fits Output w h = tt
-word-fits (Register r) w h = ltb→lt r (2 ^ w) (true→T h)
-word-fits (Async m) w h = tt
-word-fits (Clocked m r) w h = ltb→lt r (2 ^ w) (true→T h)
-word-fits (Gate o) w h = op-fits o w h
-
-body-fits : (b : Body) (n m : ℕ) → bodyFits b n m ≡ true → (length (spelledIn n b) ≡ n) × ((a : ℕ) → a < length (spelledIn n b) → getD (spelledIn n b) a 0 < m)
-body-fits (Words l) n m e =
-    let k = eqb (length l) n in
-    let f = allBelow (length l) (λ i. ltb (getD l i 0) m) in
-    (eqb-true (and-left k f e), λ i h. ltb→lt (getD l i 0) m (true→T (allBelow-elim (length l) (λ j. ltb (getD l j 0) m) (and-right k f e) i h)))
-
-good-table : (t : Table) → goodTable t ≡ true → TableFits t
-unfolding goodTable spelled
-good-table t e =
-    let l = leb 1 (t .bits) in
-    let h = leb (t .bits) 10 in
-    let l′ = leb 1 (t .wide) in
-    let h′ = leb (t .wide) 16 in
-    let b = bodyFits (t .body) (2 ^ t .bits) (2 ^ t .wide) in
-    let r : ((l′ && h′) && b) ≡ true = and-right (l && h) ((l′ && h′) && b) e in
-    let lh : (l && h) ≡ true = and-left (l && h) ((l′ && h′) && b) e in
-    let lh′ : (l′ && h′) ≡ true = and-left (l′ && h′) b r in
-    let w = body-fits (t .body) (2 ^ t .bits) (2 ^ t .wide) (and-right (l′ && h′) b r) in
-    record {
-      bits-low = leb→le 1 (t .bits) (true→T (and-left l h lh));
-      bits-high = leb→le (t .bits) 10 (true→T (and-right l h lh));
-      wide-low = leb→le 1 (t .wide) (true→T (and-left l′ h′ lh′));
-      wide-high = leb→le (t .wide) 16 (true→T (and-right l′ h′ lh′));
-      all-words = w .0;
-      each-fits = w .1;
-    }
-
-module _ (N : Net) where
-  good-node : (v : ℕ) → goodNode N v ≡ true → (1 ≤ widthAt N v) × (widthAt N v ≤ 16) × Fits (elementAt N v) (widthAt N v)
-  unfolding goodNode
-  good-node v e =
-      let l = leb 1 (widthAt N v) in
-      let h = leb (widthAt N v) 16 in
-      let f = wordFits (elementAt N v) (widthAt N v) in
-      let lh : (l && h) ≡ true = and-left (l && h) f e in
-      (leb→le 1 (widthAt N v) (true→T (and-left l h lh)), leb→le (widthAt N v) 16 (true→T (and-right l h lh)), word-fits (elementAt N v) (widthAt N v) (and-right (l && h) f e))
-
-  pub good-fields : goodFields N ≡ true → FieldsFit N
-  unfolding goodFields
-  good-fields e =
-      let a = leb (length (N .tables)) 16 in
-      let b = allBelow (length (N .tables)) (λ m. goodTable (tableIn (N .tables) m)) in
-      let c = leb (size N) 1024 in
-      let d = allBelow (size N) (goodNode N) in
-      let ab : (a && b) ≡ true = and-left (a && b) (c && d) e in
-      let cd : (c && d) ≡ true = and-right (a && b) (c && d) e in
-      let good : (v : ℕ) → v < size N → goodNode N v ≡ true = allBelow-elim (size N) (goodNode N) (and-right c d cd) in
-      record {
-        bounds = record { tables = leb→le (length (N .tables)) 16 (true→T (and-left a b ab)); nodes = leb→le (size N) 1024 (true→T (and-left c d cd)) };
-        tables-fit = λ m h. good-table (tableIn (N .tables) m) (allBelow-elim (length (N .tables)) (λ k. goodTable (tableIn (N .tables) k)) (and-right a b ab) m h);
-        width-low = λ v h. good-node v (good v h) .0;
-        width-high = λ v h. good-node v (good v h) .1;
-        word-fits = λ v h. good-node v (good v h) .2;
-      }

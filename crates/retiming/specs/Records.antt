@@ -14,7 +14,7 @@ use Rattle.netlist.specs.declared.Node.{Node}
 use Rattle.lists.specs.BelowLaws.{lt-or-le}
 use Rattle.netlist.specs.Net.{Table, Net, size, nodeAt, elementAt, source, operands, tableOf, Sourced}
 use Rattle.netlist.specs.Checks.{HasTable, WellFormed}
-use Rattle.codec.specs.Within.{Recorded, Within}
+use Rattle.codec.specs.Within.{Within}
 use Rattle.retiming.specs.Rewrite.{Timing, Place, Entry, Reg, newTable, newElement, newSource, nodeOf, rewrittenWith}
 use Rattle.retiming.specs.Layout.{Sound}
 use Rattle.retiming.specs.Candidate.{Retimes, operands-new}
@@ -63,6 +63,20 @@ module _ (N : Net) (f : Timing) (Z : ℕ → ℕ → ℕ) where
 
 -- ---- all of them
 
+-- what a node of a new netlist looks like: a record of the format, but for the sizes of its numbers
+pub record Shaped (x : Node) : Type 0 where
+  pub three : length (x .sources) ≡ 3
+  pub unread : (p : ℕ) → operands (x .element) ≤ p → getD (x .sources) p 0 ≡ 0
+  pub lowest : (b : ℕ) → x .element ≡ Gate (Part b) → b < 256
+
+abbrev pub AllShaped : Net → Type 0
+AllShaped M = (v : ℕ) → v < size M → Shaped (nodeAt M v)
+
+pub shaped-new : (N : Net) (f : Timing) (Z : ℕ → ℕ → ℕ) → Retimes N f → Within N → AllShaped (rewrittenWith N f Z)
+shaped-new N f Z ok w =
+    at-node N f Z ok (λ i pl n. Shaped n)
+    (λ i k s. record { three = three-places N f Z _; unread = unread-place N f Z _; lowest = lowest-place N f Z w _ s })
+
 -- at most 16 tables, so a number is one byte
 table-byte : (ts : List Table) → length ts ≤ 16 → (e : Element) → HasTable ts e → tableOf e < 256
 table-byte ts few Input h = lit< tt
@@ -72,32 +86,24 @@ table-byte ts few (Async m) h = omega arith
 table-byte ts few (Clocked m r) h = omega arith
 table-byte ts few (Gate o) h = lit< tt
 
-module _ (N : Net) (f : Timing) (Z : ℕ → ℕ → ℕ) (ok : Retimes N f) (w : Within N) (wf : WellFormed (rewrittenWith N f Z)) where
-  abbrev new : Net
-  new = rewrittenWith N f Z
-
-  each : (P : Node → Type 0) → ((pl : Place) → Sound N f Z pl → P (nodeOf N f Z pl)) → (i : ℕ) → i < size new → P (nodeAt new i)
-  each P h i l = at-node N f Z ok (λ i pl n. P n) (λ i k s. h _ s) i l
-
-  unread-new : (i : ℕ) → i < size new → (p : ℕ) → operands (nodeAt new i .element) ≤ p → getD (nodeAt new i .sources) p 0 ≡ 0
-  unread-new = each (λ n. (p : ℕ) → operands (n .element) ≤ p → getD (n .sources) p 0 ≡ 0) (λ pl s. unread-place N f Z pl)
-
+module _ (M : Net) (wf : WellFormed M) (few : length (M .tables) ≤ 16) (shaped : AllShaped M) where
   -- at most 1,024 nodes, so a source number is two bytes
-  source-small : (i : ℕ) → i < size new → (p : ℕ) → getD (nodeAt new i .sources) p 0 < 65536
+  source-small : (i : ℕ) → i < size M → (p : ℕ) → getD (nodeAt M i .sources) p 0 < 65536
   unfolding Sourced elementAt source
   source-small i h p =
-      ⊎-elim (λ l. omega (arith, wf .sourced i p h l, wf .fields .bounds .nodes)) (λ l. rw (unread-new i h p l) (lit< tt)) (lt-or-le p (operands (nodeAt new i .element)))
+      ⊎-elim (λ l. omega (arith, wf .sourced i p h l, wf .fields .bounds .nodes)) (λ l. rw (shaped i h .unread p l) (lit< tt)) (lt-or-le p (operands (nodeAt M i .element)))
 
-  recorded-new : (i : ℕ) → i < size new → Recorded (nodeAt new i)
+  -- THE LAW: a file can hold a netlist of such nodes that passes the checks
+  pub within-shaped : Within M
   unfolding elementAt
-  recorded-new i h = record {
-    three = each (λ n. length (n .sources) ≡ 3) (λ pl s. three-places N f Z pl) i h;
-    two-bytes = source-small i h;
-    unread = unread-new i h;
-    table = table-byte (new .tables) (wf .fields .bounds .tables) (nodeAt new i .element) (wf .has-table i h);
-    lowest = each (λ n. (b : ℕ) → n .element ≡ Gate (Part b) → b < 256) (lowest-place N f Z w) i h;
+  within-shaped = record {
+    few-tables = few;
+    fields = wf .fields;
+    records = λ i h. record {
+      three = shaped i h .three;
+      two-bytes = source-small i h;
+      unread = shaped i h .unread;
+      table = table-byte (M .tables) few (nodeAt M i .element) (wf .has-table i h);
+      lowest = shaped i h .lowest;
+    };
   }
-
-  -- THE LAW
-  pub new-within : Within new
-  new-within = record { fields = wf .fields; records = recorded-new }

@@ -24,10 +24,10 @@ use Rattle.codec.specs.EncodeBytes.{bytes-encode}
 use Rattle.codec.specs.DecodeEncode.{decode-encode}
 use Rattle.behaviour.specs.Alike.{Alike}
 use Rattle.behaviour.specs.Run.{zeroWord}
-use Rattle.retiming.specs.Rewrite.{timing, rewritten}
+use Rattle.retiming.specs.Rewrite.{newTables, rewrittenWith, timing, rewritten}
 use Rattle.retiming.specs.Debt.{debtVerdict}
 use Rattle.retiming.specs.Retimed.{retimes, rewritten-clocked}
-use Rattle.retiming.specs.Records.{new-within}
+use Rattle.retiming.specs.Records.{shaped-new, within-shaped}
 use Rattle.retiming.specs.PastDebt.{no-debt, past-debt-alike}
 use Rattle.retiming.specs.FileRewrite.{debtAfter, rewriterJudged, rewriterVerdict, IsAccepted, rewrittenOf, rewrittenFile, written, writtenAfter, rewriteFile, NoAsynchronous}
 
@@ -80,10 +80,11 @@ module _ (s : List ℕ) (b : Bytes s) (t : Past13 s) where
   file-is = ap rewrittenOf (t .reads)
 
   new-in-file : Within (rewritten (t .net))
-  unfolding rewritten
+  unfolding rewritten rewrittenWith newTables
   new-in-file =
       let d = no-debt (t .net) (t .debtless) in
-      new-within (t .net) (timing (t .net)) (zeroWord (t .net)) (retimes (t .net) (netlists-alike .old) (d .0) (d .1)) old-within (netlists-alike .new)
+      within-shaped (rewritten (t .net)) (netlists-alike .new) (old-within .few-tables)
+      (shaped-new (t .net) (timing (t .net)) (zeroWord (t .net)) (retimes (t .net) (netlists-alike .old) (d .0) (d .1)) old-within)
 
   -- it is read as the rewritten netlist
   pub reads-new : decode (rewrittenFile s) ≡ good (rewritten (t .net))
