@@ -14,7 +14,7 @@ use Rattle.netlist.specs.Checks.{WellFormed}
 use Rattle.netlist.specs.File.{good, decode}
 use Rattle.netlist.specs.declared.Answer.the-variants.{Accepted, Refused}
 use Rattle.behaviour.specs.Run.{resetState, runOutputs}
-use Rattle.behaviour.specs.Runs.{Lent, inputWidths, outputWidths, stateWidths, fitting, takes, refusal, answer, after}
+use Rattle.behaviour.specs.Runs.{Lent, inputWidths, outputWidths, stateWidths, fitting, takes, refusal, outcome, after}
 use Rattle.behaviour.specs.ClockFits.{holders-fit, reset-fits, state-stays-fit}
 use Rattle.behaviour.specs.States.{taken-fits}
 use Rattle.behaviour.specs.Service.{bytesOf, roomFor, fittingBytes, resetNet, resetFile, Ran, runNet, runFile, Entry, runsFile}
@@ -47,7 +47,7 @@ module _ (N : Net) (wf : WellFormed N) where
 
   ran : (st : List ℕ) (f : Fitted N st) (e : Entry)
       → runNet N st (e .inputs) (e .outputs)
-      ≡ ranAs (shownAs e (answer (cond (takes N (lent e)) 0 15) N (f .words) (lent e))) (after (cond (takes N (lent e)) 0 15) N (f .words) (lent e))
+      ≡ ranAs (shownAs e (outcome (cond (takes N (lent e)) 0 15) N (f .words) (lent e))) (after (cond (takes N (lent e)) 0 15) N (f .words) (lent e))
   ran st f e = rw (f .is) (rw (← (only-15 st f e)) (run-words N wf (f .words) e))
 
   after-fits : (state : List ℕ) → fitting (stateWidths N) state ≡ true → (e : Lent) (b : Bool) → takes N e ≡ b → fitting (stateWidths N) (after (cond b 0 15) N state e) ≡ true
@@ -72,10 +72,10 @@ module _ (N : Net) (wf : WellFormed N) where
 
   run-shows : (st : List ℕ) → Fitted N st → (e : Entry)
       → Shows (takesEntry N e) e (record { answer = runNet N st (e .inputs) (e .outputs) .answer; outputs = runNet N st (e .inputs) (e .outputs) .outputs })
-  unfolding answer
+  unfolding outcome
   run-shows st f e = rw (ran st f e) (by-test (takes N (lent e)) (sym (takes-lent N wf e)))
     where
-      by-test : (b : Bool) → takesEntry N e ≡ b → Shows (takesEntry N e) e (shownAs e (answer (cond b 0 15) N (f .words) (lent e)))
+      by-test : (b : Bool) → takesEntry N e ≡ b → Shows (takesEntry N e) e (shownAs e (outcome (cond b 0 15) N (f .words) (lent e)))
       by-test true t =
           let ws : List ℕ = runOutputs N (f .words) (lent e .words) in
           record { answer = rw t; as-long = omega (arith, length-bytes ws, outputs-long (f .words) (lent e .words), room-taken e t); stays = λ k. absurd (true≢false (sym t ∙ k)) }

@@ -9,12 +9,12 @@ use Rattle.lists.specs.BelowLaws.{true-or-false}
 use Rattle.netlist.specs.Net.{Net}
 use Rattle.netlist.specs.VerdictLaws.{fine-reader}
 use Rattle.netlist.specs.Checks.{WellFormed}
-use Rattle.netlist.specs.File.{Decoded, good, decode}
-use Rattle.netlist.specs.declared.Answer.the-variants.{Accepted, Refused}
+use Rattle.netlist.specs.File.{Decoded, good, decode, answer, given}
 use Rattle.netlist.specs.declared.Verdict.{Verdict}
+use Rattle.netlist.specs.declared.Verdict.the-variants.{Fine, Refuses}
 use Rattle.behaviour.specs.Run.{runOutputs, runState}
 use Rattle.behaviour.specs.Runs as runs
-use Rattle.behaviour.specs.Runs.{stateWidths, fitting, takes, refusal, answer, after}
+use Rattle.behaviour.specs.Runs.{stateWidths, fitting, takes, refusal, outcome, after}
 use Rattle.behaviour.specs.Service.{bytesOf, wordsIn, resetNet, resetAfter, resetDecoded, resetFile, Ran, runNet, runAfter, runDecoded, runFile, Entry, Shown, runsFile}
 use Rattle.behaviour.specs.WordBytes.{words-of-bytes, fitting-bytes}
 use Rattle.behaviour.specs.Lending.{takesEntry, lent, takes-lent, words-lent}
@@ -32,38 +32,44 @@ module _ (s : List ℕ) (N : Net) (wf : WellFormed N) (reads : decode s ≡ good
 
 -- ---- one run
 
--- what the answer on words shows in bytes, and with the next state
-abbrev pub shownAs : Entry → runs.Answer → Shown
-shownAs e (runs.Gave ws) = record { answer = Accepted (length (e .outputs)); outputs = bytesOf ws }
-shownAs e (runs.Refused k room) = record { answer = Refused k 65535; outputs = e .outputs }
+-- what the outcome on words shows in bytes, and with the next state
+abbrev pub shownAs : Entry → runs.Outcome → Shown
+shownAs e (runs.Gave ws) = record { answer = answer Fine (length (e .outputs)); outputs = bytesOf ws }
+shownAs e (runs.Stayed k room) = record { answer = answer (Refuses k 65535) (length (e .outputs)); outputs = e .outputs }
 
 abbrev pub ranAs : Shown → List ℕ → Ran
 ranAs x state = record { answer = x .answer; state = bytesOf state; outputs = x .outputs }
 
 module _ (N : Net) (wf : WellFormed N) where
   -- an entry that is taken, over a state that fits or does not; and an entry that is not
+  abbrev ranBy : Verdict → List ℕ → Entry → Ran
+  ranBy v state e = record {
+    answer = answer v (length (e .outputs));
+    state = given v (bytesOf (runState N state (wordsIn (e .inputs)))) (bytesOf state);
+    outputs = given v (bytesOf (runOutputs N state (wordsIn (e .inputs)))) (e .outputs);
+  }
+
   run-taken : (state : List ℕ) (e : Entry) → takes N (lent e) ≡ true → (b : Bool)
-      → cond b (record { answer = Accepted (length (e .outputs)); state = bytesOf (runState N state (wordsIn (e .inputs))); outputs = bytesOf (runOutputs N state (wordsIn (e .inputs))) })
-      (record { answer = Refused 16 65535; state = bytesOf state; outputs = e .outputs })
-      ≡ ranAs (shownAs e (answer (cond b 0 16) N state (lent e))) (after (cond b 0 16) N state (lent e))
-  unfolding answer after
+      → ranBy (cond b Fine (Refuses 16 65535)) state e
+      ≡ ranAs (shownAs e (outcome (cond b 0 16) N state (lent e))) (after (cond b 0 16) N state (lent e))
+  unfolding outcome after
   run-taken state e t true = rw (words-lent N wf e t)
   run-taken state e t false = refl
 
   -- THE LAW
   pub run-words : (state : List ℕ) (e : Entry)
-      → runNet N (bytesOf state) (e .inputs) (e .outputs) ≡ ranAs (shownAs e (answer (refusal N state (lent e)) N state (lent e))) (after (refusal N state (lent e)) N state (lent e))
-  unfolding runNet refusal takesEntry answer after
+      → runNet N (bytesOf state) (e .inputs) (e .outputs) ≡ ranAs (shownAs e (outcome (refusal N state (lent e)) N state (lent e))) (after (refusal N state (lent e)) N state (lent e))
+  unfolding runNet refusal takesEntry outcome after
   run-words state e =
       rw (← (takes-lent N wf e)) (rw (fitting-bytes (stateWidths N) state) (rw (words-of-bytes state)
       (⊎-elim (λ (t : takes N (lent e) ≡ true). rw t (run-taken state e t (fitting (stateWidths N) state))) (λ t. rw t refused) (true-or-false (takes N (lent e))))))
     where
-      refused : record { answer = Refused 15 65535; state = bytesOf state; outputs = e .outputs } ≡ ranAs (shownAs e (answer 15 N state (lent e))) (after 15 N state (lent e))
+      refused : ranBy (Refuses 15 65535) state e ≡ ranAs (shownAs e (outcome 15 N state (lent e))) (after 15 N state (lent e))
       refused = refl
 
 -- ---- a list of runs
 
-abbrev pub shownAll : List Entry → List runs.Answer → List Shown
+abbrev pub shownAll : List Entry → List runs.Outcome → List Shown
 shownAll [] l = []
 shownAll (e ∷ es) [] = []
 shownAll (e ∷ es) (a ∷ l) = shownAs e a ∷ shownAll es l
@@ -73,7 +79,7 @@ module _ (s : List ℕ) (N : Net) (wf : WellFormed N) (reads : decode s ≡ good
   shown r = record { answer = r .answer; outputs = r .outputs }
 
   ran : (state : List ℕ) (e : Entry)
-      → runFile s (bytesOf state) (e .inputs) (e .outputs) ≡ ranAs (shownAs e (answer (refusal N state (lent e)) N state (lent e))) (after (refusal N state (lent e)) N state (lent e))
+      → runFile s (bytesOf state) (e .inputs) (e .outputs) ≡ ranAs (shownAs e (outcome (refusal N state (lent e)) N state (lent e))) (after (refusal N state (lent e)) N state (lent e))
   ran state e = run-file s N wf reads (bytesOf state) (e .inputs) (e .outputs) ∙ run-words N wf state e
 
   -- THE THEOREM: what the file's runs show is decided by the runs of its netlist on words

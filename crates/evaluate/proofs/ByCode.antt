@@ -11,7 +11,7 @@ use lib.Pow.{pow-mono}
 use Rattle.words.specs.declared.Op.{Op}
 use Rattle.gates.specs.Gate.{gateWord, gateWord-operate}
 use Rattle.netlist.specs.Net.{Table, noTable, Net, size, elementAt, widthAt, source, withinClock, isMemory, tableOf, contentsAt}
-use Rattle.netlist.specs.Checks.{Widths, Fits, HasTable, WellFormed}
+use Rattle.netlist.specs.Checks.{ElementWidths, Fits, HasTable, WellFormed}
 use Rattle.netlist.specs.declared.Element.{Element}
 use Rattle.netlist.specs.declared.Element.the-variants.{Input, Output, Register, Async, Clocked, Gate}
 use Rattle.nodes.specs.Code.{codeOf}
@@ -79,8 +79,8 @@ module _ (M : List ℕ) (w : ℕ) (ws : ℕ → ℕ) (own : ℕ) (d : ℕ → �
   gate-gives : {o : Op} {e : Element} → Gate o ≡ e → gateWord o w (ws 1) (d 0) (d 1) (d 2) ≡ gives e
   gate-gives {o} q = gateWord-operate w ws d o ∙ ap gives q
 
-  gate-fits : (ts : List Table) {o : Op} {e : Element} → Gate o ≡ e → Widths ts e w ws → Fits e w → ((p : ℕ) → p < withinClock e → d p < 2 ^ ws p) → gives e < 2 ^ w
-  gate-fits ts {o} q = subst (λ (x : Element). Widths ts x w ws → Fits x w → ((p : ℕ) → p < withinClock x → d p < 2 ^ ws p) → gives x < 2 ^ w) q (operate-fits w ws d o)
+  gate-fits : (ts : List Table) {o : Op} {e : Element} → Gate o ≡ e → ElementWidths ts e w ws → Fits e w → ((p : ℕ) → p < withinClock e → d p < 2 ^ ws p) → gives e < 2 ^ w
+  gate-fits ts {o} q = subst (λ (x : Element). ElementWidths ts x w ws → Fits x w → ((p : ℕ) → p < withinClock x → d p < 2 ^ ws p) → gives x < 2 ^ w) q (operate-fits w ws d o)
 
 -- an asynchronous ROM is a memory with its address within the clock
 async-memory : (e : Element) → codeOf e ≡ 3 → (isMemory e ≡ true) × (withinClock e ≡ 1)
@@ -92,7 +92,7 @@ async-memory (Clocked m r) h = absurd (omega arith)
 async-memory (Gate o) h = absurd (omega arith)
 
 -- a memory's table is there, and its address has as many bits
-memory-table : (ts : List Table) (w : ℕ) (ws : ℕ → ℕ) (e : Element) → isMemory e ≡ true → Widths ts e w ws → HasTable ts e → (tableOf e < length ts) × (ws 0 ≡ getD ts (tableOf e) noTable .bits)
+memory-table : (ts : List Table) (w : ℕ) (ws : ℕ → ℕ) (e : Element) → isMemory e ≡ true → ElementWidths ts e w ws → HasTable ts e → (tableOf e < length ts) × (ws 0 ≡ getD ts (tableOf e) noTable .bits)
 memory-table ts w ws Input h r t = absurd (false≢true h)
 memory-table ts w ws Output h r t = absurd (false≢true h)
 memory-table ts w ws (Register q) h r t = absurd (false≢true h)
@@ -159,7 +159,7 @@ module _ {N : Net} {codes sources : List ℕ} {n : ℕ} (t : Columns N codes sou
   pub places-inside : (x < n) × (y < n) × (z < n)
   places-inside = (omega (arith, at-first, inside 0), omega (arith, at-second, inside 1), omega (arith, at-third, inside 2))
 
-  pub gathered : {widths : List ℕ} → columns.Widths N widths n → (ws : List ℕ) → Gathered N ws v (getD widths v 0) (getD widths y 0) (getD ws x 0) (getD ws y 0) (getD ws z 0)
+  pub gathered : {widths : List ℕ} → columns.ElementWidths N widths n → (ws : List ℕ) → Gathered N ws v (getD widths v 0) (getD widths y 0) (getD ws x 0) (getD ws y 0) (getD ws z 0)
   gathered {widths} b ws = record {
     wide = b .width v h;
     second-wide = ap (λ (k : ℕ). getD widths k 0) at-second ∙ b .width (source N v 1) (inside 1);

@@ -36,13 +36,13 @@ abbrev pub MemoryWidths : Table → Memory → ℕ → (ℕ → ℕ) → Type 0
 MemoryWidths t m w ws = (ws 0 ≡ t .bits) × (w ≡ t .wide)
 
 -- 7, of an element
-abbrev pub Widths : List Table → Element → ℕ → (ℕ → ℕ) → Type 0
-Widths ts Input w ws = Unit {0}
-Widths ts Output w ws = ws 0 ≡ w
-Widths ts (Register r) w ws = ws 0 ≡ w
-Widths ts (Async m) w ws = MemoryWidths (tableIn ts (tableNo m)) m w ws
-Widths ts (Clocked m r) w ws = MemoryWidths (tableIn ts (tableNo m)) m w ws
-Widths ts (Gate o) w ws = OpWidths o w ws
+abbrev pub ElementWidths : List Table → Element → ℕ → (ℕ → ℕ) → Type 0
+ElementWidths ts Input w ws = Unit {0}
+ElementWidths ts Output w ws = ws 0 ≡ w
+ElementWidths ts (Register r) w ws = ws 0 ≡ w
+ElementWidths ts (Async m) w ws = MemoryWidths (tableIn ts (tableNo m)) m w ws
+ElementWidths ts (Clocked m r) w ws = MemoryWidths (tableIn ts (tableNo m)) m w ws
+ElementWidths ts (Gate o) w ws = OpWidths o w ws
 
 -- 5: a reset word or a constant fits the width
 abbrev pub OpFits : Op → ℕ → Type 0
@@ -76,6 +76,19 @@ HasTable ts (Async m) = tableNo m < length ts
 HasTable ts (Clocked m r) = tableNo m < length ts
 HasTable ts (Gate o) = Unit {0}
 
+-- 6, of node v: its table is there, and each of its sources is a node and no output port
+abbrev pub SourcesRight : Net → ℕ → Type 0
+SourcesRight N v = HasTable (N .tables) (elementAt N v)
+    × ((p : ℕ) → p < operands (elementAt N v) → (source N v p < size N) × (isOutput (elementAt N (source N v p)) ≡ false))
+
+-- 7
+abbrev pub WidthsRight : Net → ℕ → Type 0
+WidthsRight N v = ElementWidths (N .tables) (elementAt N v) (widthAt N v) (λ p. widthAt N (source N v p))
+
+-- 8: it has a reader, unless it is a port
+abbrev pub HasReader : Net → ℕ → Type 0
+HasReader N v = isInput (elementAt N v) ≡ false → isOutput (elementAt N v) ≡ false → (x : ℕ) × Reads N x v
+
 -- 4
 pub record TableFits (t : Table) : Type 0 where
   pub bits-low : 1 ≤ t .bits
@@ -103,7 +116,7 @@ pub record WellFormed (N : Net) : Type 0 where
   pub sourced : Sourced N
   pub outputs-unread : (v p : ℕ) → v < size N → p < operands (elementAt N v) → isOutput (elementAt N (source N v p)) ≡ false
   pub has-table : (v : ℕ) → v < size N → HasTable (N .tables) (elementAt N v)
-  pub widths : (v : ℕ) → v < size N → Widths (N .tables) (elementAt N v) (widthAt N v) (λ p. widthAt N (source N v p))
-  pub read : (v : ℕ) → v < size N → isInput (elementAt N v) ≡ false → isOutput (elementAt N v) ≡ false → (x : ℕ) × Reads N x v
+  pub widths : (v : ℕ) → v < size N → WidthsRight N v
+  pub read : (v : ℕ) → v < size N → HasReader N v
   pub no-loop : (v : ℕ) → Loop N v → ⊥
   pub no-ring : (v : ℕ) → Ring N v → ⊥

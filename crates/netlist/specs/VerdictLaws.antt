@@ -1,6 +1,6 @@
 -- The reader finds nothing to refuse just where the netlist is well formed. Assumes nothing.
 use mathlib.Core.Path.{_≡_, refl, sym, ap, _∙_}
-use mathlib.Core.Logic.{⊎-elim}
+use mathlib.Core.Logic.{_↔_, ⊎-elim}
 use mathlib.Core.Bool.{Bool, true, false, not, _&&_, _||_, true≢false, false≢true}
 use mathlib.Core.List.{List, [], _∷_}
 use Prim.Native.Nat.{ℕ, _+_, _<_}
@@ -20,7 +20,7 @@ use Rattle.netlist.specs.Reach.{reachesItself}
 use Rattle.netlist.specs.declared.Verdict.the-variants.{Fine, Refuses}
 use Rattle.netlist.specs.Verdict.{tableThere, badSource, opWidths, memoryRight, widthsRight, badWidth, unread, inLoop, inRing, Stage, verdict, readerStages, readerVerdict}
 use Rattle.netlist.specs.Rank.{Through, once, then}
-use Rattle.netlist.specs.Checks.{OpWidths, MemoryWidths, Widths, HasTable, tableIn, FieldsFit, WellFormed}
+use Rattle.netlist.specs.Checks.{OpWidths, MemoryWidths, ElementWidths, HasTable, tableIn, SourcesRight, WidthsRight, HasReader, FieldsFit, WellFormed}
 use Rattle.netlist.specs.ReachLaws.{reaches-itself-iff}
 
 eqb-from : {m n : ℕ} → m ≡ n → eqb m n ≡ true
@@ -89,7 +89,7 @@ module _ (w : ℕ) (ws : ℕ → ℕ) where
   right-memory : (t : Table) (m : Memory) → MemoryWidths t m w ws → memoryRight t m w ws ≡ true
   right-memory t m r = both (eqb (ws 0) (t .bits)) (eqb w (t .wide)) (eqb-from (r .0)) (eqb-from (r .1))
 
-  widths-right : (ts : List Table) (e : Element) → widthsRight ts e w ws ≡ true → Widths ts e w ws
+  widths-right : (ts : List Table) (e : Element) → widthsRight ts e w ws ≡ true → ElementWidths ts e w ws
   widths-right ts Input e = tt
   widths-right ts Output e = eqb-true e
   widths-right ts (Register r) e = eqb-true e
@@ -97,7 +97,7 @@ module _ (w : ℕ) (ws : ℕ → ℕ) where
   widths-right ts (Clocked m r) e = memory-right (tableIn ts (tableNo m)) m e
   widths-right ts (Gate o) e = op-right o e
 
-  right-widths : (ts : List Table) (e : Element) → Widths ts e w ws → widthsRight ts e w ws ≡ true
+  right-widths : (ts : List Table) (e : Element) → ElementWidths ts e w ws → widthsRight ts e w ws ≡ true
   right-widths ts Input r = refl
   right-widths ts Output r = eqb-from r
   right-widths ts (Register q) r = eqb-from r
@@ -144,7 +144,7 @@ clear-fine [] c = refl
 clear-fine (s ∷ l) c = let t : ltb (lowest (s .over) (s .bad)) (s .over) ≡ false = lowest-all (s .over) (s .bad) (c .0) in rw (t, verdict) (clear-fine l (c .1))
 
 module _ (N : Net) where
-  source-test : (v : ℕ) → badSource N v ≡ false → HasTable (N .tables) (elementAt N v) × ((p : ℕ) → p < operands (elementAt N v) → (source N v p < size N) × (isOutput (elementAt N (source N v p)) ≡ false))
+  source-test : (v : ℕ) → badSource N v ≡ false → SourcesRight N v
   unfolding badSource
   source-test v e =
       let a = not (tableThere (N .tables) (elementAt N v)) in
@@ -156,15 +156,15 @@ module _ (N : Net) where
         ),
       )
 
-  test-source : (v : ℕ) → HasTable (N .tables) (elementAt N v) → ((p : ℕ) → p < operands (elementAt N v) → (source N v p < size N) × (isOutput (elementAt N (source N v p)) ≡ false)) → badSource N v ≡ false
+  test-source : (v : ℕ) → SourcesRight N v → badSource N v ≡ false
   unfolding badSource
-  test-source v t h =
+  test-source v (t, h) =
       neither (not (tableThere (N .tables) (elementAt N v))) (anyBelow (operands (elementAt N v)) (λ p. not (ltb (source N v p) (size N)) || isOutput (elementAt N (source N v p))))
       (not-false (tableThere (N .tables) (elementAt N v)) (there-table (N .tables) (elementAt N v) t))
       (none-below (operands (elementAt N v)) (λ p. not (ltb (source N v p) (size N)) || isOutput (elementAt N (source N v p)))
       (λ p q. neither (not (ltb (source N v p) (size N))) (isOutput (elementAt N (source N v p))) (not-false (ltb (source N v p) (size N)) (T→true (lt→ltb (source N v p) (size N) (h p q .0)))) (h p q .1)))
 
-  unread-test : (v : ℕ) → unread N v ≡ false → isInput (elementAt N v) ≡ false → isOutput (elementAt N v) ≡ false → (x : ℕ) × Reads N x v
+  unread-test : (v : ℕ) → unread N v ≡ false → HasReader N v
   unfolding unread readsTest
   unread-test v e i o =
       let t : not (anyBelow (size N) (λ x. readsTest N x v)) ≡ false = rw o at (rw i at e) in
@@ -172,7 +172,7 @@ module _ (N : Net) where
       let s = anyBelow-elim (operands (elementAt N (r .0))) (λ p. eqb (source N (r .0) p) v) (r .2) in
       (r .0, record { operand = s .0; inside = r .1; used = s .1; from = eqb-true (s .2) })
 
-  test-unread : (v : ℕ) → (isInput (elementAt N v) ≡ false → isOutput (elementAt N v) ≡ false → (x : ℕ) × Reads N x v) → unread N v ≡ false
+  test-unread : (v : ℕ) → HasReader N v → unread N v ≡ false
   unfolding unread readsTest
   test-unread v h =
       ⊎-elim (λ i. rw i refl)
@@ -181,6 +181,21 @@ module _ (N : Net) where
     where
       read-by : (x : ℕ) × Reads N x v → anyBelow (size N) (λ x. readsTest N x v) ≡ true
       read-by (x, r) = anyBelow-intro (size N) (λ y. readsTest N y v) x (r .inside) (anyBelow-intro (operands (elementAt N x)) (λ p. eqb (source N x p) v) (r .operand) (r .used) (eqb-from (r .from)))
+
+  -- ---- the tests of 6, 7 and 8 are their rules
+
+  pub six-is : (v : ℕ) → badSource N v ≡ false ↔ SourcesRight N v
+  six-is v = (source-test v, test-source v)
+
+  pub seven-is : (v : ℕ) → badWidth N v ≡ false ↔ WidthsRight N v
+  unfolding badWidth
+  seven-is v = (
+    λ t. widths-right (widthAt N v) (λ p. widthAt N (source N v p)) (N .tables) (elementAt N v) (not-true _ t),
+    λ r. not-false _ (right-widths (widthAt N v) (λ p. widthAt N (source N v p)) (N .tables) (elementAt N v) r),
+  )
+
+  pub eight-is : (v : ℕ) → unread N v ≡ false ↔ HasReader N v
+  eight-is v = (unread-test v, test-unread v)
 
   -- the verdict, stage by stage
   record Stages : Type 0 where
@@ -214,7 +229,7 @@ module _ (N : Net) where
 
   -- what the reader takes is well formed
   pub reader-fine : FieldsFit N → readerVerdict N ≡ Fine → WellFormed N
-  unfolding badWidth inLoop inRing
+  unfolding inLoop inRing
   reader-fine fit e =
       let s : Stages = stages e in
       record {
@@ -222,19 +237,19 @@ module _ (N : Net) where
         sourced = stages-sourced s;
         outputs-unread = λ v p h q. source-test v (s .six v h) .1 p q .1;
         has-table = λ v h. source-test v (s .six v h) .0;
-        widths = λ v h. widths-right (widthAt N v) (λ p. widthAt N (source N v p)) (N .tables) (elementAt N v) (not-true _ (s .seven v h));
-        read = λ v h i o. unread-test v (s .eight v h) i o;
+        widths = λ v h. seven-is v .0 (s .seven v h);
+        read = λ v h. eight-is v .0 (s .eight v h);
         no-loop = λ v w. let h : v < size N = through-inside inClock w in true≢false (sym (reaches-itself-iff inClock N (stages-sourced s) v h .1 w) ∙ s .nine v h);
         no-ring = λ v w. let h : v < size N = through-inside inRegisters w in true≢false (sym (reaches-itself-iff inRegisters N (stages-sourced s) v h .1 w) ∙ s .ten v h);
       }
 
   -- and what is well formed the reader takes
   pub fine-reader : WellFormed N → readerVerdict N ≡ Fine
-  unfolding badWidth inLoop inRing Sourced
+  unfolding inLoop inRing Sourced
   fine-reader wf = staged (record {
-    six = λ v h. test-source v (wf .has-table v h) (λ p q. (wf .sourced v p h q, wf .outputs-unread v p h q));
-    seven = λ v h. not-false _ (right-widths (widthAt N v) (λ p. widthAt N (source N v p)) (N .tables) (elementAt N v) (wf .widths v h));
-    eight = λ v h. test-unread v (wf .read v h);
+    six = λ v h. six-is v .1 (wf .has-table v h, λ p q. (wf .sourced v p h q, wf .outputs-unread v p h q));
+    seven = λ v h. seven-is v .1 (wf .widths v h);
+    eight = λ v h. eight-is v .1 (wf .read v h);
     nine = λ v h. ⊎-elim (λ t. absurd (wf .no-loop v (reaches-itself-iff inClock N (wf .sourced) v h .0 t))) (λ t. t) (true-or-false (reachesItself inClock N v));
     ten = λ v h. ⊎-elim (λ t. absurd (wf .no-ring v (reaches-itself-iff inRegisters N (wf .sourced) v h .0 t))) (λ t. t) (true-or-false (reachesItself inRegisters N v));
   })

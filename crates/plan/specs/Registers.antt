@@ -31,8 +31,8 @@ pub record PutsTo (s from lead count start done : ℕ) (owners late sources owne
   pub sources-before : (i : ℕ) → i < 3 * start → getD sources′ i 0 ≡ getD sources i 0
 
 -- all of them
-abbrev pub Puts : (s from lead count start : ℕ) (owners late sources owners′ late′ sources′ : List ℕ) → Type 0
-Puts s from lead count start = PutsTo s from lead count start count
+abbrev pub PutsRegisters : (s from lead count start : ℕ) (owners late sources owners′ late′ sources′ : List ℕ) → Type 0
+PutsRegisters s from lead count start = PutsTo s from lead count start count
 
 module _ (N : Net) where
   abbrev pub entryCount : ℕ

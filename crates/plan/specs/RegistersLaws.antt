@@ -21,7 +21,7 @@ use Rattle.retiming.specs.Wires.{Rooted, ringless-rooted, root-within}
 use Rattle.lists.specs.Threes.{concat-longer}
 use Rattle.wiring.specs.Wiring.{countFrom, count-from, wiresTo, sourceOf, wireAt}
 use Rattle.plan.specs.Entries.{Finds, Stored, entriesBefore}
-use Rattle.plan.specs.Registers.{behind, Puts, entryCount, entryAt, wireOf, wiresBefore, Planning, HeadHeld, RegHeld, Laid, AllLaid}
+use Rattle.plan.specs.Registers.{behind, PutsRegisters, entryCount, entryAt, wireOf, wiresBefore, Planning, HeadHeld, RegHeld, Laid, AllLaid}
 use Rattle.plan.specs.RegistersRow.{wires-next, reg-number, entry-number, entries-few, reader-stands, wires-all}
 
 -- ---- one wire more
@@ -186,7 +186,7 @@ module _ {N : Net} {leads roots passes ends froms copied firsts : List ℕ} (t :
             behind-is (suc j) l =
                 sym (number-at j l) ∙ ap (numberOf N (timing N) (zeroWord N)) (sym (along-reg N (timing N) (zeroWord N) x w p (count - suc j) (omega (arith, count-is))))
 
-            module _ {owners′ late′ put sources′ : List ℕ} {lead-x head : ℕ} (le : lead-x ≡ lead N x) (q : Puts (source N x p) r lead-x count total owners late sources owners′ late′ put)
+            module _ {owners′ late′ put sources′ : List ℕ} {lead-x head : ℕ} (le : lead-x ≡ lead N x) (q : PutsRegisters (source N x p) r lead-x count total owners late sources owners′ late′ put)
                 (se : sources′ ≡ set put m head) (he : head ≡ behind r total count) (la : length put ≡ 3072) where
               sources-same : (j : ℕ) → (j ≡ m → ⊥) → getD sources′ j 0 ≡ getD put j 0
               sources-same j l = ap (λ (z : List ℕ). getD z j 0) se ∙ getD-set-other put m j head 0 l

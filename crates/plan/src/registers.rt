@@ -10,9 +10,9 @@ ghost use lib.ListN.{length, getD};
 ghost use Rattle.netlist.specs.ScanLaws.{Found};
 ghost use Rattle.netlist.specs.File.{netIn};
 ghost use Rattle.columns.specs.Columns.{Columns};
-ghost use Rattle.plan.specs.Registers.{behind, Puts, entryCount, Planning, Laid, AllLaid};
+ghost use Rattle.plan.specs.Registers.{behind, PutsRegisters, entryCount, Planning, Laid, AllLaid};
 
-// Puts the registers of a wire, from its source on.
+// PutsRegisters the registers of a wire, from its source on.
 fn put_registers(
     s: u16,
     from: u16,
@@ -24,7 +24,7 @@ fn put_registers(
     sources: &mut [u16],
 )
     requires { ⌜ (lead ≤ 1024) × (count ≤ 2049) × (start ≤ 1024) × (length (now owners) ≡ 1024) × (length (now late) ≡ 1024) × (length (now sources) ≡ 3072) ⌝ }
-    ensures { λ _. ⌜ Puts s from lead count start (now (owners .entry)) (now (late .entry)) (now (sources .entry)) (now (owners .exit)) (now (late .exit)) (now (sources .exit)) ⌝ }
+    ensures { λ _. ⌜ PutsRegisters s from lead count start (now (owners .entry)) (now (late .entry)) (now (sources .entry)) (now (owners .exit)) (now (late .exit)) (now (sources .exit)) ⌝ }
 {
     let mut before = from;
     let mut t: usize = 0;

@@ -4,6 +4,6 @@ use Rattle.netlist.specs.declared.Answer.{Answer}
 use Rattle.netlist.specs.declared.Answer.the-variants.{Accepted, Refused}
 
 -- the length where accepted, number × 65,536 + place where refused
-abbrev pub codeOf : Answer → ℕ
-codeOf (Accepted n) = n
-codeOf (Refused k p) = k * 65536 + p
+abbrev pub asNumber : Answer → ℕ
+asNumber (Accepted n) = n
+asNumber (Refused k p) = k * 65536 + p

@@ -14,21 +14,21 @@ use Rattle.netlist.specs.declared.Verdict.{Verdict}
 use Rattle.netlist.specs.declared.Verdict.the-variants.{Fine, Refuses}
 
 -- the answer's length is at most so much
-pub data Within (b : ℕ) : Answer → Type 0 where
-  accepted-within : {n : ℕ} → n ≤ b → Within b (Accepted n)
-  refused-within : {k p : ℕ} → Within b (Refused k p)
+pub data LengthWithin (b : ℕ) : Answer → Type 0 where
+  accepted-within : {n : ℕ} → n ≤ b → LengthWithin b (Accepted n)
+  refused-within : {k p : ℕ} → LengthWithin b (Refused k p)
 
-pub within : {b n : ℕ} → Within b (Accepted n) → n ≤ b
+pub within : {b n : ℕ} → LengthWithin b (Accepted n) → n ≤ b
 within (accepted-within h) = h
 
-of-verdict : (v : Verdict) (n b : ℕ) → n ≤ b → Within b (answer v n)
+of-verdict : (v : Verdict) (n b : ℕ) → n ≤ b → LengthWithin b (answer v n)
 of-verdict Fine n b h = accepted-within h
 of-verdict (Refuses k p) n b h = refused-within
 
-of-scan : (s : List ℕ) (w : Scan) → scan s ≡ w → Within 65535 (answer (judged (decoded s w)) (length s))
+of-scan : (s : List ℕ) (w : Scan) → scan s ≡ w → LengthWithin 65535 (answer (judged (decoded s w)) (length s))
 of-scan s (refused k p) e = refused-within
 of-scan s (found ts ns) e = of-verdict (readerVerdict (netIn s ts ns)) (length s) 65535 (let h = scan-found s ts ns e .short in omega arith)
 
-pub check-within : (s : List ℕ) → Within 65535 (checkAnswer s)
+pub check-within : (s : List ℕ) → LengthWithin 65535 (checkAnswer s)
 unfolding checkAnswer fileVerdict decode
 check-within s = of-scan s (scan s) (λ i. scan s)

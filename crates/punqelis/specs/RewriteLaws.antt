@@ -13,9 +13,9 @@ use Rattle.netlist.specs.declared.Verdict.the-variants.{Fine, Refuses}
 use Rattle.codec.specs.Bytes.{Bytes}
 use Rattle.retiming.specs.FileRewrite.{rewriterVerdict, rewrittenFile, written, writtenAfter, rewriteFile}
 use Rattle.retiming.specs.RewrittenFile.{past-13, new-length}
-use Rattle.punqelis.specs.CodeLaws.{Within, accepted-within, refused-within}
+use Rattle.punqelis.specs.CodeLaws.{LengthWithin, accepted-within, refused-within}
 
-written-within : (b out : List ℕ) → length b ≤ 65535 → Within 65535 (written b out .answer)
+written-within : (b out : List ℕ) → length b ≤ 65535 → LengthWithin 65535 (written b out .answer)
 unfolding written
 written-within b out h =
     ⊎-elim
@@ -23,10 +23,10 @@ written-within b out h =
     (λ (e : ltb (length out) (length b) ≡ false). rw e (accepted-within h))
     (true-or-false (ltb (length out) (length b)))
 
-pub rewrite-within : (s out : List ℕ) → Bytes s → Within 65535 (rewriteFile s out .answer)
+pub rewrite-within : (s out : List ℕ) → Bytes s → LengthWithin 65535 (rewriteFile s out .answer)
 unfolding rewriteFile
 rewrite-within s out b = by-verdict (rewriterVerdict s) refl
   where
-    by-verdict : (v : Verdict) → rewriterVerdict s ≡ v → Within 65535 (writtenAfter v (rewrittenFile s) out .answer)
+    by-verdict : (v : Verdict) → rewriterVerdict s ≡ v → LengthWithin 65535 (writtenAfter v (rewrittenFile s) out .answer)
     by-verdict Fine e = written-within (rewrittenFile s) out (let l = new-length s b (past-13 s e) in omega arith)
     by-verdict (Refuses k p) e = refused-within

@@ -20,7 +20,7 @@ use Rattle.netlist.specs.declared.Verdict.{Verdict}
 use Rattle.netlist.specs.declared.Verdict.the-variants.{Fine, Refuses}
 use Rattle.behaviour.specs.Runs.{inputWidths, outputWidths, stateWidths}
 use Rattle.behaviour.specs.Service.{roomFor, fittingBytes, resetNet, resetAfter, resetDecoded, resetFile, runNet, runAfter, runDecoded, runFile}
-use Rattle.punqelis.specs.CodeLaws.{Within, accepted-within, refused-within}
+use Rattle.punqelis.specs.CodeLaws.{LengthWithin, accepted-within, refused-within}
 
 -- one word for each node that passes a test
 module _ (q : ℕ → Bool) (N : Net) (few : size N ≤ 1024) where
@@ -28,7 +28,7 @@ module _ (q : ℕ → Bool) (N : Net) (few : size N ≤ 1024) where
   room b e = let l : length b ≡ 2 * length (select q (λ v. widthAt N v) (size N)) = eqb-true e in omega (arith, length-select q (λ v. widthAt N v) (size N), countBelow-le q (size N))
 
 module _ (N : Net) (few : size N ≤ 1024) where
-  reset-net : (st : List ℕ) → Within 65535 (resetNet N st .answer)
+  reset-net : (st : List ℕ) → LengthWithin 65535 (resetNet N st .answer)
   unfolding resetNet stateWidths
   reset-net st =
       ⊎-elim
@@ -36,7 +36,7 @@ module _ (N : Net) (few : size N ≤ 1024) where
       (λ (e : roomFor (stateWidths N) st ≡ false). rw e refused-within)
       (true-or-false (roomFor (stateWidths N) st))
 
-  run-net : (st ins outs : List ℕ) → Within 65535 (runNet N st ins outs .answer)
+  run-net : (st ins outs : List ℕ) → LengthWithin 65535 (runNet N st ins outs .answer)
   unfolding runNet outputWidths
   run-net st ins outs =
       ⊎-elim
@@ -48,11 +48,11 @@ module _ (N : Net) (few : size N ≤ 1024) where
       (λ (e : (fittingBytes (inputWidths N) ins && roomFor (outputWidths N) outs) ≡ false). rw e refused-within)
       (true-or-false (fittingBytes (inputWidths N) ins && roomFor (outputWidths N) outs))
 
-  reset-judged : (v : Verdict) (st : List ℕ) → Within 65535 (resetAfter v N st .answer)
+  reset-judged : (v : Verdict) (st : List ℕ) → LengthWithin 65535 (resetAfter v N st .answer)
   reset-judged Fine st = reset-net st
   reset-judged (Refuses k p) st = refused-within
 
-  run-judged : (v : Verdict) (st ins outs : List ℕ) → Within 65535 (runAfter v N st ins outs .answer)
+  run-judged : (v : Verdict) (st ins outs : List ℕ) → LengthWithin 65535 (runAfter v N st ins outs .answer)
   run-judged Fine st ins outs = run-net st ins outs
   run-judged (Refuses k p) st ins outs = refused-within
 
@@ -60,18 +60,18 @@ module _ (s : List ℕ) where
   few-nodes : (ts ns : List ℕ) → scan s ≡ found ts ns → size (netIn s ts ns) ≤ 1024
   few-nodes ts ns e = omega (arith, size-in s ts ns, scan-found s ts ns e .few-nodes)
 
-  reset-scanned : (w : Scan) → scan s ≡ w → (st : List ℕ) → Within 65535 (resetDecoded (decoded s w) st .answer)
+  reset-scanned : (w : Scan) → scan s ≡ w → (st : List ℕ) → LengthWithin 65535 (resetDecoded (decoded s w) st .answer)
   reset-scanned (refused k p) e st = refused-within
   reset-scanned (found ts ns) e st = reset-judged (netIn s ts ns) (few-nodes ts ns e) (readerVerdict (netIn s ts ns)) st
 
-  run-scanned : (w : Scan) → scan s ≡ w → (st ins outs : List ℕ) → Within 65535 (runDecoded (decoded s w) st ins outs .answer)
+  run-scanned : (w : Scan) → scan s ≡ w → (st ins outs : List ℕ) → LengthWithin 65535 (runDecoded (decoded s w) st ins outs .answer)
   run-scanned (refused k p) e st ins outs = refused-within
   run-scanned (found ts ns) e st ins outs = run-judged (netIn s ts ns) (few-nodes ts ns e) (readerVerdict (netIn s ts ns)) st ins outs
 
-  pub reset-within : (st : List ℕ) → Within 65535 (resetFile s st .answer)
+  pub reset-within : (st : List ℕ) → LengthWithin 65535 (resetFile s st .answer)
   unfolding resetFile decode
   reset-within st = reset-scanned (scan s) refl st
 
-  pub run-within : (st ins outs : List ℕ) → Within 65535 (runFile s st ins outs .answer)
+  pub run-within : (st ins outs : List ℕ) → LengthWithin 65535 (runFile s st ins outs .answer)
   unfolding runFile decode
   run-within st ins outs = run-scanned (scan s) refl st ins outs

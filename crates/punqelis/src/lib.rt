@@ -9,8 +9,8 @@ ghost use Prim.Native.Nat.{_≤_};
 ghost use Rattle.netlist.specs.File.{checkAnswer};
 ghost use Rattle.behaviour.specs.Service.{resetFile, runFile};
 ghost use Rattle.retiming.specs.FileRewrite.{rewriteFile};
-ghost use Rattle.punqelis.specs.Code.{codeOf};
-ghost use Rattle.punqelis.specs.CodeLaws.{Within};
+ghost use Rattle.punqelis.specs.Code.{asNumber};
+ghost use Rattle.punqelis.specs.CodeLaws.{LengthWithin};
 
 fn wide8(x: u8) -> u32
     ensures { λ r. ⌜ (r ≡ x) × (r ≤ 255) ⌝ }
@@ -26,8 +26,8 @@ fn wide16(x: u16) -> u32
 
 // The number of an answer whose length is no more than a file's.
 fn code(a: Answer) -> u32
-    requires { ⌜ Within 65535 a ⌝ }
-    ensures { λ r. ⌜ r ≡ codeOf a ⌝ }
+    requires { ⌜ LengthWithin 65535 a ⌝ }
+    ensures { λ r. ⌜ r ≡ asNumber a ⌝ }
 {
     match a {
         Answer::Accepted(n) => n as u32,
@@ -38,7 +38,7 @@ fn code(a: Answer) -> u32
 // Checks a netlist file (1 to 10): its length, or the refusal.
 #[no_mangle]
 pub extern "C" fn punqelis_check(file: &[u8]) -> u32
-    ensures { λ r. ⌜ r ≡ codeOf (checkAnswer (now (file .entry))) ⌝ }
+    ensures { λ r. ⌜ r ≡ asNumber (checkAnswer (now (file .entry))) ⌝ }
 {
     code(check_file(file))
 }
@@ -46,7 +46,7 @@ pub extern "C" fn punqelis_check(file: &[u8]) -> u32
 // Fills a state with the reset words: its length, or the refusal, which leaves the state as it was.
 #[no_mangle]
 pub extern "C" fn punqelis_reset(file: &[u8], state: &mut [u8]) -> u32
-    ensures { λ r. ⌜ (r ≡ codeOf (resetFile (now (file .entry)) (now (state .entry)) .answer))
+    ensures { λ r. ⌜ (r ≡ asNumber (resetFile (now (file .entry)) (now (state .entry)) .answer))
         × (now (state .exit) ≡ resetFile (now (file .entry)) (now (state .entry)) .state) ⌝ }
 {
     code(reset_state(file, state))
@@ -60,7 +60,7 @@ pub extern "C" fn punqelis_run(
     inputs: &[u8],
     outputs: &mut [u8],
 ) -> u32
-    ensures { λ r. ⌜ (r ≡ codeOf (runFile (now (file .entry)) (now (state .entry)) (now (inputs .entry)) (now (outputs .entry)) .answer))
+    ensures { λ r. ⌜ (r ≡ asNumber (runFile (now (file .entry)) (now (state .entry)) (now (inputs .entry)) (now (outputs .entry)) .answer))
         × (now (state .exit) ≡ runFile (now (file .entry)) (now (state .entry)) (now (inputs .entry)) (now (outputs .entry)) .state)
         × (now (outputs .exit) ≡ runFile (now (file .entry)) (now (state .entry)) (now (inputs .entry)) (now (outputs .entry)) .outputs) ⌝ }
 {
@@ -70,7 +70,7 @@ pub extern "C" fn punqelis_run(
 // Rewrites a file so that all its ROMs are clocked: the new file's length, or the refusal, which leaves the output as it was.
 #[no_mangle]
 pub extern "C" fn punqelis_rewrite(file: &[u8], out: &mut [u8]) -> u32
-    ensures { λ r. ⌜ (r ≡ codeOf (rewriteFile (now (file .entry)) (now (out .entry)) .answer))
+    ensures { λ r. ⌜ (r ≡ asNumber (rewriteFile (now (file .entry)) (now (out .entry)) .answer))
         × (now (out .exit) ≡ rewriteFile (now (file .entry)) (now (out .entry)) .out) ⌝ }
 {
     code(rewrite_file(file, out))

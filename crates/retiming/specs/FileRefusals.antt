@@ -3,10 +3,10 @@
 use mathlib.Core.Path.{_≡_, refl, sym, ap, _∙_}
 use mathlib.Core.Logic.{_↔_}
 use mathlib.Core.Bool.{Bool, true, false, cond}
-use mathlib.Core.List.{List, _++_}
+use mathlib.Core.List.{List}
 use Prim.Native.Nat.{ℕ, _<_}
 use native.Mathlib.Omega.{arith}
-use lib.ListN.{length, drop}
+use lib.ListN.{length}
 use lib.Dec.{ltb}
 use borrow.Author.Tests.{lt-ltb, ltb-true}
 use Rattle.netlist.specs.Net.{Net, size}
@@ -14,7 +14,7 @@ use Rattle.netlist.specs.Checks.{WellFormed}
 use Rattle.netlist.specs.VerdictLaws.{reader-fine}
 use Rattle.netlist.specs.Verdict.{readerVerdict}
 use Rattle.netlist.specs.File.{good, decode}
-use Rattle.netlist.specs.declared.Answer.the-variants.{Accepted, Refused}
+use Rattle.netlist.specs.declared.Answer.the-variants.{Refused}
 use Rattle.netlist.specs.declared.Verdict.{Verdict}
 use Rattle.netlist.specs.declared.Verdict.the-variants.{Fine, Refuses}
 use Rattle.codec.specs.Bytes.{Bytes}
@@ -23,32 +23,32 @@ use Rattle.retiming.specs.LeadsLaws.{PositiveClosed}
 use Rattle.retiming.specs.Rewrite.{rewritten}
 use Rattle.retiming.specs.Debt.{debtVerdict}
 use Rattle.retiming.specs.DebtLaws.{LowestOwing, NoneOwes, refuses-11-iff, refuses-12-iff, refuses-13-iff}
-use Rattle.retiming.specs.FileRewrite.{debtAfter, rewriterJudged, rewriterVerdict, IsAccepted, rewrittenFile, Rewrote, written, writtenAfter, rewriteFile}
+use Rattle.retiming.specs.FileRewrite.{debtAfter, rewriterJudged, rewriterVerdict, IsAccepted, rewrittenFile, writtenBy, outVerdict, written, writtenAfter, rewriteFile}
 
 -- ---- 14, and what the answer says of the checks before it
 
 module _ (b out : List ℕ) where
-  wrote : Bool → Rewrote
-  wrote t = cond t (record { answer = Refused 14 65535; out = out }) (record { answer = Accepted (length b); out = b ++ drop (length b) out })
+  -- the answer is a refusal just where the verdict is one, and then the output is as it was
+  refused-by : (v : Verdict) (k p : ℕ) → writtenBy v b out .answer ≡ Refused k p → (v ≡ Refuses k p) × (writtenBy v b out .out ≡ out)
+  refused-by Fine k p e = let z : _≡_ {A = ℕ} 0 1 = cc in absurd (omega arith)
+  refused-by (Refuses m q) k p e = (cc, refl)
 
-  wrote-kept : (t : Bool) (k p : ℕ) → wrote t .answer ≡ Refused k p → wrote t .out ≡ out
-  unfolding wrote
-  wrote-kept true k p e = refl
-  wrote-kept false k p e = let z : _≡_ {A = ℕ} 0 1 = cc in absurd (omega arith)
+  by-length : (t : Bool) (k p : ℕ) → cond t (Refuses 14 65535) Fine ≡ Refuses k p → (t ≡ true) × (14 ≡ k)
+  by-length true k p e = (refl, let n : 14 ≡ k = cc in n)
+  by-length false k p e = let z : _≡_ {A = ℕ} 0 1 = cc in absurd (omega arith)
 
-  wrote-number : (t : Bool) (k p : ℕ) → wrote t .answer ≡ Refused k p → (t ≡ true) × (14 ≡ k)
-  unfolding wrote
-  wrote-number true k p e = (refl, let n : 14 ≡ k = cc in n)
-  wrote-number false k p e = let z : _≡_ {A = ℕ} 0 1 = cc in absurd (omega arith)
+  -- 14 by the length, after which no other number comes
+  short : (k p : ℕ) → written b out .answer ≡ Refused k p → (ltb (length out) (length b) ≡ true) × (14 ≡ k)
+  unfolding written
+  short k p e = by-length (ltb (length out) (length b)) k p (refused-by (outVerdict b out) k p e .0)
 
   kept : (v : Verdict) (k p : ℕ) → writtenAfter v b out .answer ≡ Refused k p → writtenAfter v b out .out ≡ out
-  unfolding written wrote
-  kept Fine k p e = wrote-kept (ltb (length out) (length b)) k p e
+  unfolding written
+  kept Fine k p e = refused-by (outVerdict b out) k p e .1
   kept (Refuses m q) k p e = refl
 
   said : (v : Verdict) (k p : ℕ) → (k ≡ 14 → ⊥) → writtenAfter v b out .answer ≡ Refused k p → v ≡ Refuses k p
-  unfolding written wrote
-  said Fine k p h e = absurd (h (sym (wrote-number (ltb (length out) (length b)) k p e .1)))
+  said Fine k p h e = absurd (h (sym (short k p e .1)))
   said (Refuses m q) k p h e = cc
 
 -- "no lent byte differs after it": of any file, and of any refusal
@@ -58,9 +58,9 @@ refused-keeps s out k p e = kept (rewrittenFile s) out (rewriterVerdict s) k p e
 
 -- 14: just where the lent output is shorter than the rewritten file
 pub refused-14-iff : (s out : List ℕ) → IsAccepted s → rewriteFile s out .answer ≡ Refused 14 65535 ↔ (length out < length (rewrittenFile s))
-unfolding rewriteFile written wrote
+unfolding rewriteFile written
 refused-14-iff s out a = rw a (
-  λ e. ltb-true (length out) (length (rewrittenFile s)) (wrote-number (rewrittenFile s) out (ltb (length out) (length (rewrittenFile s))) 14 65535 e .0),
+  λ e. ltb-true (length out) (length (rewrittenFile s)) (short (rewrittenFile s) out 14 65535 e .0),
   λ l. rw (lt-ltb (length out) (length (rewrittenFile s)) l),
 )
 

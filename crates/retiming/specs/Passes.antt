@@ -20,7 +20,7 @@ use Rattle.netlist.specs.Reach.{Reads}
 use Rattle.retiming.specs.Rewrite.{Timing, oldOn, Place, Entry, Reg, ownHere, rootIn, root, memoryAt, countOn, newTables, newTable, resetWord, copyOn, copies, places, numberOf, along, newElement, nodeOf, rewrittenWith}
 use Rattle.netlist.specs.Rank.{no-loop}
 use Rattle.behaviour.specs.Fits.{rom-widths}
-use Rattle.netlist.specs.Checks.{Widths, Fits, HasTable, tableIn, TableFits, Bounds, WellFormed}
+use Rattle.netlist.specs.Checks.{ElementWidths, Fits, HasTable, tableIn, TableFits, Bounds, WellFormed}
 use Rattle.retiming.specs.Elements.{register-no-port}
 use Rattle.retiming.specs.Wires.{delay, width-root}
 use Rattle.retiming.specs.Layout.{noPlace, Stands, Sound, along-reg, along-end, stays-is, stays-if, copy-none}
@@ -79,7 +79,7 @@ module _ (N : Net) (f : Timing) (wf : WellFormed N) (ok : Retimes N f) (jns Z : 
   place-table (Reg x c p j) s = tt
 
   place-widths : (pl : Place) → Sound N f Z pl
-      → Widths (newTables N f Z) (nodeOf N f Z pl .element) (nodeOf N f Z pl .width) (λ p. widthAt (rewrittenWith N f Z) (getD (nodeOf N f Z pl .sources) p 0))
+      → ElementWidths (newTables N f Z) (nodeOf N f Z pl .element) (nodeOf N f Z pl .width) (λ p. widthAt (rewrittenWith N f Z) (getD (nodeOf N f Z pl .sources) p 0))
   unfolding nodeOf sources
   place-widths (Entry u c) s =
       widths-new (widthAt N u) (λ p. widthAt N (source N u p)) (λ p. widthAt (rewrittenWith N f Z) (sources N f Z u c p)) (N .tables) (newTables N f Z) (elementAt N u) (newTable N f Z u) c
@@ -242,8 +242,8 @@ module _ (N : Net) (f : Timing) (wf : WellFormed N) (ok : Retimes N f) (jns Z : 
     has-table = subst (λ (ts : List Table). (v : ℕ) → v < size (rewrittenWith N f Z) → HasTable ts (elementAt (rewrittenWith N f Z) v)) (sym same-tables)
         (each (λ n. HasTable (newTables N f Z) (n .element)) place-table);
     widths = subst (λ (ts : List Table). (v : ℕ) → v < size (rewrittenWith N f Z)
-        → Widths ts (elementAt (rewrittenWith N f Z) v) (widthAt (rewrittenWith N f Z) v) (λ p. widthAt (rewrittenWith N f Z) (source (rewrittenWith N f Z) v p))) (sym same-tables)
-        (each (λ n. Widths (newTables N f Z) (n .element) (n .width) (λ p. widthAt (rewrittenWith N f Z) (getD (n .sources) p 0))) place-widths);
+        → ElementWidths ts (elementAt (rewrittenWith N f Z) v) (widthAt (rewrittenWith N f Z) v) (λ p. widthAt (rewrittenWith N f Z) (source (rewrittenWith N f Z) v p))) (sym same-tables)
+        (each (λ n. ElementWidths (newTables N f Z) (n .element) (n .width) (λ p. widthAt (rewrittenWith N f Z) (getD (n .sources) p 0))) place-widths);
     read = new-read;
     no-loop = λ v w. no-loop inClock (rewrittenWith N f Z) (new-rank N f Z ok) (new-ranked N f Z ok) w;
     no-ring = λ v w. no-loop inRegisters (rewrittenWith N f Z) (λ i. ring-rank (getD (places N f Z) i noPlace)) new-ring w;

@@ -9,10 +9,10 @@ use borrow.Author.Tests.{eq-eqb, ne-eqb}
 use Rattle.lists.specs.BelowLaws.{and-left, eqb-true}
 use Rattle.lists.specs.ListsLaws.{length-select}
 use Rattle.netlist.specs.Net.{Net, size, widthAt}
-use Rattle.netlist.specs.declared.Answer.the-variants.{Accepted, Refused}
-use Rattle.behaviour.specs.Run.{resetState, runOutputs, runState}
+use Rattle.netlist.specs.declared.Verdict.{Verdict}
+use Rattle.netlist.specs.declared.Verdict.the-variants.{Fine, Refuses}
 use Rattle.behaviour.specs.Runs.{inputWidths, outputWidths, stateWidths, fitting}
-use Rattle.behaviour.specs.Service.{bytesOf, wordsIn, roomFor, fittingBytes, Filled, resetNet, Ran, runNet}
+use Rattle.behaviour.specs.Service.{wordsIn, roomFor, fittingBytes, Filled, resetBy, resetNet, Ran, runBy, runNet}
 use Rattle.evaluate.specs.Rows.{rowTest, rowMembers, rowWidths}
 use Rattle.lists.specs.SelectLaws.{members-count}
 use Rattle.evaluate.specs.declared.Row.{Row}
@@ -45,36 +45,33 @@ module _ (N : Net) (row : Row) {members : List ℕ} (e : members ≡ rowMembers 
 -- ---- reset
 
 module _ (N : Net) (st : List ℕ) where
-  pub reset-done : roomFor (rowWidths State N) st ≡ true → resetNet N st ≡ record { answer = Accepted (length st); state = bytesOf (resetState N) }
+  pub reset-done : roomFor (rowWidths State N) st ≡ true → resetNet N st ≡ resetBy Fine N st
   unfolding resetNet stateWidths
-  reset-done t = ap (λ (b : Bool). cond b (record { answer = Accepted (length st); state = bytesOf (resetState N) }) (record { answer = Refused 16 65535; state = st })) t
+  reset-done t = ap (λ (b : Bool). resetBy (cond b Fine (Refuses 16 65535)) N st) t
 
-  pub reset-refused : roomFor (rowWidths State N) st ≡ false → resetNet N st ≡ record { answer = Refused 16 65535; state = st }
+  pub reset-refused : roomFor (rowWidths State N) st ≡ false → resetNet N st ≡ resetBy (Refuses 16 65535) N st
   unfolding resetNet stateWidths
-  reset-refused t = ap (λ (b : Bool). cond b (record { answer = Accepted (length st); state = bytesOf (resetState N) }) (record { answer = Refused 16 65535; state = st })) t
+  reset-refused t = ap (λ (b : Bool). resetBy (cond b Fine (Refuses 16 65535)) N st) t
 
 -- ---- run
 
 module _ (N : Net) (st ins outs : List ℕ) where
-  abbrev done : Ran
-  done = record { answer = Accepted (length outs); state = bytesOf (runState N (wordsIn st) (wordsIn ins)); outputs = bytesOf (runOutputs N (wordsIn st) (wordsIn ins)) }
-
-  abbrev turned-away : ℕ → Ran
-  turned-away k = record { answer = Refused k 65535; state = st; outputs = outs }
+  abbrev by : Verdict → Ran
+  by v = runBy v N st ins outs
 
   by-tests : {a b c : Bool} → fittingBytes (rowWidths Inputs N) ins ≡ a → roomFor (rowWidths Outputs N) outs ≡ b → fittingBytes (rowWidths State N) st ≡ c
-      → runNet N st ins outs ≡ cond (a && b) (cond c done (turned-away 16)) (turned-away 15)
+      → runNet N st ins outs ≡ by (cond (a && b) (cond c Fine (Refuses 16 65535)) (Refuses 15 65535))
   unfolding runNet inputWidths outputWidths stateWidths
-  by-tests p q r = λ i. cond (p i && q i) (cond (r i) done (turned-away 16)) (turned-away 15)
+  by-tests p q r = λ i. by (cond (p i && q i) (cond (r i) Fine (Refuses 16 65535)) (Refuses 15 65535))
 
-  pub run-inputs : fittingBytes (rowWidths Inputs N) ins ≡ false → runNet N st ins outs ≡ turned-away 15
+  pub run-inputs : fittingBytes (rowWidths Inputs N) ins ≡ false → runNet N st ins outs ≡ by (Refuses 15 65535)
   run-inputs p = by-tests p refl refl
 
-  pub run-room : fittingBytes (rowWidths Inputs N) ins ≡ true → roomFor (rowWidths Outputs N) outs ≡ false → runNet N st ins outs ≡ turned-away 15
+  pub run-room : fittingBytes (rowWidths Inputs N) ins ≡ true → roomFor (rowWidths Outputs N) outs ≡ false → runNet N st ins outs ≡ by (Refuses 15 65535)
   run-room p q = by-tests p q refl
 
-  pub run-refused : fittingBytes (rowWidths Inputs N) ins ≡ true → roomFor (rowWidths Outputs N) outs ≡ true → fittingBytes (rowWidths State N) st ≡ false → runNet N st ins outs ≡ turned-away 16
+  pub run-refused : fittingBytes (rowWidths Inputs N) ins ≡ true → roomFor (rowWidths Outputs N) outs ≡ true → fittingBytes (rowWidths State N) st ≡ false → runNet N st ins outs ≡ by (Refuses 16 65535)
   run-refused p q r = by-tests p q r
 
-  pub run-done : fittingBytes (rowWidths Inputs N) ins ≡ true → roomFor (rowWidths Outputs N) outs ≡ true → fittingBytes (rowWidths State N) st ≡ true → runNet N st ins outs ≡ done
+  pub run-done : fittingBytes (rowWidths Inputs N) ins ≡ true → roomFor (rowWidths Outputs N) outs ≡ true → fittingBytes (rowWidths State N) st ≡ true → runNet N st ins outs ≡ by Fine
   run-done p q r = by-tests p q r

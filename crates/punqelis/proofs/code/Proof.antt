@@ -3,8 +3,8 @@ use mathlib.Core.Path.{sym, ap, ap₂, subst, _∙_}
 use Prim.Native.Nat.{ℕ, _+_, _*_}
 use native.Mathlib.Omega.{arith}
 use borrow.Author.Needs.{needs}
-use Rattle.punqelis.specs.Code.{codeOf}
-use Rattle.punqelis.specs.CodeLaws.{Within, within}
+use Rattle.punqelis.specs.Code.{asNumber}
+use Rattle.punqelis.specs.CodeLaws.{LengthWithin, within}
 use Rattle.punqelis.proofs.code.Statement.{statement}
 use Rattle.punqelis.proofs.code.Tie as tie
 
@@ -12,7 +12,7 @@ enum-known-a : tie.Need-enum-known-a
 enum-known-a c = search needs
 
 cast-result : tie.Need-cast-result
-cast-result c = omega (arith, within (subst (Within 65535) (c .before .a .given .1) (c .before .before .before .pre)))
+cast-result c = omega (arith, within (subst (LengthWithin 65535) (c .before .a .given .1) (c .before .before .before .pre)))
 
 enum-known-a-2 : tie.Need-enum-known-a-2
 enum-known-a-2 c = search needs
@@ -33,7 +33,7 @@ returns : tie.Need-returns
 returns c = search needs
 
 returns-2 : tie.Need-returns-2
-returns-2 c = ap₂ (λ (k q : ℕ). k * 65536 + q) (c .before .wide8 .ensures .0) (c .wide16 .ensures .0) ∙ sym (ap codeOf (c .before .before .before .a2 .given .1))
+returns-2 c = ap₂ (λ (k q : ℕ). k * 65536 + q) (c .before .wide8 .ensures .0) (c .wide16 .ensures .0) ∙ sym (ap asNumber (c .before .before .before .a2 .given .1))
 
 pub code-spec : {M : Type 1} → statement M
 code-spec =

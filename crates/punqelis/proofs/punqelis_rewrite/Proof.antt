@@ -2,8 +2,8 @@
 use mathlib.Core.Path.{sym, ap, subst, _∙_}
 use native.Mathlib.Omega.{arith}
 use borrow.Author.Needs.{needs}
-use Rattle.punqelis.specs.Code.{codeOf}
-use Rattle.punqelis.specs.CodeLaws.{Within}
+use Rattle.punqelis.specs.Code.{asNumber}
+use Rattle.punqelis.specs.CodeLaws.{LengthWithin}
 use Rattle.punqelis.specs.RewriteLaws.{rewrite-within}
 use Rattle.punqelis.proofs.punqelis_rewrite.Statement.{statement}
 use Rattle.punqelis.proofs.punqelis_rewrite.Tie as tie
@@ -12,13 +12,13 @@ rewrite-file-requires : tie.Need-rewrite-file-requires
 rewrite-file-requires c κs = search needs
 
 code-requires : tie.Need-code-requires
-code-requires c κs = subst (Within 65535) (sym (c .before .before .rewrite-file .ensures .0)) (rewrite-within (c .before .before .before .before .before .before .args .file .now) (c .before .before .before .before .before .before .args .out .now) (λ i. omega (arith, c .before .before .before .before .before .shared-slice-known .given i)))
+code-requires c κs = subst (LengthWithin 65535) (sym (c .before .before .rewrite-file .ensures .0)) (rewrite-within (c .before .before .before .before .before .before .args .file .now) (c .before .before .before .before .before .before .args .out .now) (λ i. omega (arith, c .before .before .before .before .before .shared-slice-known .given i)))
 
 same-length : tie.Need-same-length
 same-length c = search needs
 
 returns : tie.Need-returns
-returns c = (c .code .ensures ∙ ap codeOf (c .before .before .before .rewrite-file .ensures .0), c .before .before .before .rewrite-file .ensures .1)
+returns c = (c .code .ensures ∙ ap asNumber (c .before .before .before .rewrite-file .ensures .0), c .before .before .before .rewrite-file .ensures .1)
 
 pub punqelis-rewrite-spec : {M : Type 1} → statement M
 punqelis-rewrite-spec =
