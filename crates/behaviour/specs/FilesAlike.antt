@@ -1,15 +1,16 @@
 -- Two files whose netlists are alike answer every list of runs alike, byte for byte, each over its own state from reset; also where each entry is
 -- chosen after what the runs before it showed. Assumes nothing.
-use mathlib.Core.Path.{_≡_, refl, sym, ap, _∙_}
+use mathlib.Core.Path.{_≡_, refl, sym, ap, ap₂, _∙_}
+use mathlib.Core.Bool.{_&&_}
 use mathlib.Core.List.{List, [], _∷_, _++_, map}
 use Prim.Native.Nat.{ℕ, zero, suc}
 use Rattle.netlist.specs.Net.{Net}
-use Rattle.netlist.specs.File.{good, decode}
+use Rattle.netlist.specs.File.{Decoded, good, decode}
 use Rattle.behaviour.specs.Run.{resetState}
 use Rattle.behaviour.specs.Alike.{Alike, runs-alike}
-use Rattle.behaviour.specs.Service.{bytesOf, Entry, Shown, runsFile}
-use Rattle.behaviour.specs.Lending.{lent}
-use Rattle.behaviour.specs.Entries.{chosen}
+use Rattle.behaviour.specs.Service.{bytesOf, fittingBytes, roomFor, Entry, Shown, runsFile}
+use Rattle.behaviour.specs.Lending.{takesEntry, lent}
+use Rattle.behaviour.specs.Entries.{entryFitsOf, entryFits, chosen}
 use Rattle.behaviour.specs.ServiceLaws.{shownAll, runs-words}
 
 pub files-alike : (s s′ : List ℕ) (N M : Net) → Alike N M → decode s ≡ good N → decode s′ ≡ good M
@@ -18,6 +19,14 @@ files-alike s s′ N M ok d d′ es =
     runs-words s N (ok .old) d (resetState N) es
     ∙ ap (shownAll es) (sym (runs-alike N M ok (map lent es)))
     ∙ sym (runs-words s′ M (ok .new) d′ (resetState M) es)
+
+-- 15's condition is one for both
+pub fits-alike : (s s′ : List ℕ) (N M : Net) → Alike N M → decode s ≡ good N → decode s′ ≡ good M → (e : Entry) → entryFits s′ e ≡ entryFits s e
+unfolding entryFits takesEntry
+fits-alike s s′ N M ok d d′ e =
+    ap (λ (x : Decoded). entryFitsOf x e) d′
+    ∙ ap₂ (λ (is os : List ℕ). fittingBytes is (e .inputs) && roomFor os (e .outputs)) (ok .inputs) (ok .outputs)
+    ∙ sym (ap (λ (x : Decoded). entryFitsOf x e) d)
 
 -- what holds of every list holds of one that is chosen on the way
 module _ (s s′ st st′ : List ℕ) (alike : (es : List Entry) → runsFile s st es ≡ runsFile s′ st′ es) (choose : List Shown → Entry) where

@@ -19,4 +19,6 @@ pub mod Entries
 pub mod Refused
 pub mod ServiceLaws
 pub mod Only15
+pub mod NoClock
+pub mod RunsBehave
 pub mod FilesAlike

@@ -159,7 +159,7 @@ module _ {N : Net} {codes sources : List ℕ} {n : ℕ} (t : Columns N codes sou
   pub places-inside : (x < n) × (y < n) × (z < n)
   places-inside = (omega (arith, at-first, inside 0), omega (arith, at-second, inside 1), omega (arith, at-third, inside 2))
 
-  pub gathered : {widths : List ℕ} → columns.ElementWidths N widths n → (ws : List ℕ) → Gathered N ws v (getD widths v 0) (getD widths y 0) (getD ws x 0) (getD ws y 0) (getD ws z 0)
+  pub gathered : {widths : List ℕ} → columns.Widths N widths n → (ws : List ℕ) → Gathered N ws v (getD widths v 0) (getD widths y 0) (getD ws x 0) (getD ws y 0) (getD ws z 0)
   gathered {widths} b ws = record {
     wide = b .width v h;
     second-wide = ap (λ (k : ℕ). getD widths k 0) at-second ∙ b .width (source N v 1) (inside 1);

@@ -50,7 +50,7 @@ module _ (c : Stage) (l : List Stage) where
 
 module _ (N : Net) where
   -- some port owes, and then a lowest; or none does
-  search-ports : ((v : ℕ) × LowestOwing N v) ⊎ NoneOwes N
+  pub search-ports : ((v : ℕ) × LowestOwing N v) ⊎ NoneOwes N
   search-ports = by-lowest (lowestFrom-is (owingPort N) 0 (size N))
     where
       by-lowest : Lowest (owingPort N) 0 (0 + size N) (lowest (size N) (owingPort N)) → ((v : ℕ) × LowestOwing N v) ⊎ NoneOwes N
@@ -117,10 +117,10 @@ module _ (N : Net) (sourced : Sourced N) where
       told e (over-grown t n g f) = absurd (apart (debtVerdict N) 11 13 65535 65535 (λ k. omega arith) e f)
       told e (nothing t n g f) = absurd (fine-apart (debtVerdict N) 11 65535 f e)
 
-  no-closed : closedDebt N ≡ false → PositiveClosed N → ⊥
+  pub no-closed : closedDebt N ≡ false → PositiveClosed N → ⊥
   no-closed t c = false≢true (sym t ∙ closed-debt-iff N sourced .1 c)
 
-  closed-none : (PositiveClosed N → ⊥) → closedDebt N ≡ false
+  pub closed-none : (PositiveClosed N → ⊥) → closedDebt N ≡ false
   closed-none h = ⊎-elim (λ t. absurd (h (closed-debt-iff N sourced .0 t))) (λ t. t) (true-or-false (closedDebt N))
 
   -- 12: no closed walk has, and v is the lowest input port with a positive lead

@@ -1,10 +1,12 @@
 -- DEMAND 3, whole. Take any file that the rewriter accepts, and the file that it writes. The new file has no asynchronous ROM, and on the loom nobody can tell it
 -- from the old one: start both from reset and give both the same runs, as many as you like; every answer and every output byte is the same, from the first clock
 -- on. This rules out a wrong first clock after reset, a clock too early or too late, a run that one of them refuses and the other takes, a port that moves, and a
--- fault that shows up only after a thousand clocks. A run is refused just where the words lent do not fit the ports (15), and then it is no clock.
+-- fault that shows up only after a thousand clocks. A run is refused just where the words lent do not fit the ports (15), which are the same for both, and then it
+-- is no clock.
 -- `s` is the old file, `s′` the new one; `st` and `st′` are the states lent to the reset service, of any content; `es` is the list of runs. Assumes nothing.
 use mathlib.Core.Path.{_≡_, ap, _∙_}
-use mathlib.Core.List.{List, _++_}
+use mathlib.Core.Bool.{false}
+use mathlib.Core.List.{List, [], _∷_, _++_}
 use Prim.Native.Nat.{ℕ, _≤_}
 use lib.ListN.{length, drop}
 use Rattle.netlist.specs.declared.Answer.the-variants.{Accepted}
@@ -14,9 +16,10 @@ use Rattle.codec.specs.Bytes.{Bytes}
 use Rattle.behaviour.specs.Run.{resetState}
 use Rattle.behaviour.specs.Alike.{Alike}
 use Rattle.behaviour.specs.Service.{bytesOf, Filled, resetFile, Entry, runsFile}
-use Rattle.behaviour.specs.Entries.{stateBytes, entryFits, EachShows}
+use Rattle.behaviour.specs.Entries.{stateBytes, entryFits, EachShows, stateAfter}
 use Rattle.behaviour.specs.Only15.{reset-fitted, reset-accepted, each-shows}
-use Rattle.behaviour.specs.FilesAlike.{files-alike}
+use Rattle.behaviour.specs.NoClock.{no-clock}
+use Rattle.behaviour.specs.FilesAlike.{files-alike, fits-alike}
 use Rattle.retiming.specs.Rewrite.{rewritten}
 use Rattle.retiming.specs.FileRewrite.{IsAccepted, rewrittenFile, rewriteFile, NoAsynchronous}
 use Rattle.retiming.specs.RewrittenFile.{Past13, past-13, accepted-written, netlists-alike, reads-new, passes-reader, no-asynchronous}
@@ -34,7 +37,13 @@ pub demand-3 : (s s′ : List ℕ) → Bytes s → IsAccepted s → s′ ≡ rew
     -- every list of runs shows the same, and only 15 comes up, just where an entry does not fit
     × ((es : List Entry)
     → (runsFile s (resetFile s st .state) es ≡ runsFile s′ (resetFile s′ st′ .state) es)
-    × EachShows (entryFits s) es (runsFile s (resetFile s st .state) es)))
+    × EachShows (entryFits s) es (runsFile s (resetFile s st .state) es)
+    -- an entry that does not fit, and that is the same for both files, leaves both states as they were
+    × ((x : Entry)
+    → (entryFits s′ x ≡ entryFits s x)
+    × (entryFits s x ≡ false
+    → (stateAfter s (resetFile s st .state) (es ++ x ∷ []) ≡ stateAfter s (resetFile s st .state) es)
+    × (stateAfter s′ (resetFile s′ st′ .state) (es ++ x ∷ []) ≡ stateAfter s′ (resetFile s′ st′ .state) es)))))
 demand-3 s s′ b a e =
     let t : Past13 s = past-13 s a in
     let ok : Alike (t .net) (rewritten (t .net)) = netlists-alike s b t in
@@ -50,6 +59,13 @@ demand-3 s s′ b a e =
             λ es. (
               rw r (rw r′ (files-alike s s′ (t .net) (rewritten (t .net)) ok (t .reads) reads′ es)),
               rw r (each-shows s (t .net) (ok .old) (t .reads) (bytesOf (resetState (t .net))) (reset-fitted (t .net) (ok .old)) es),
+              λ x. (
+                fits-alike s s′ (t .net) (rewritten (t .net)) ok (t .reads) reads′ x,
+                λ f. (
+                  no-clock s (t .net) (ok .old) (t .reads) (resetFile s st .state) es x f,
+                  no-clock s′ (rewritten (t .net)) (ok .new) reads′ (resetFile s′ st′ .state) es x (fits-alike s s′ (t .net) (rewritten (t .net)) ok (t .reads) reads′ x ∙ f),
+                ),
+              ),
             ),
           ),
     )

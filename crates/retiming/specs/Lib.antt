@@ -22,11 +22,14 @@ pub mod Standing
 pub mod Passes
 pub mod Records
 pub mod Retimed
+pub mod LeadsServe
+pub mod ResetWords
 pub mod PastDebt
 pub mod DebtLaws
 pub mod RewrittenFile
 pub mod Demand3
 pub mod Demand3Corollaries
 pub mod FileRefusals
+pub mod Demand2
 pub mod Computing
 pub mod Bench

@@ -46,10 +46,10 @@ write-refusal-requires : tie.Need-write-refusal-requires
 write-refusal-requires c κs = search needs
 
 returns : tie.Need-returns
-returns c = answers (c .before .before .before .before .before .before .before .before .before .before .read-full .result) (c .before .before .before .before .before .before .before .before .before .before .read-full .last .1 .0) (omega (arith, c .before .before .before .before .before .before .before .before .before .before .read-full .kept .1 .0)) (sym (c .before .before .before .answer .given .1) ∙ c .before .before .before .before .before .before .rewrite-file .ensures .0)
+returns c = answers (c .before .before .before .before .before .before .before .before .before .before .read-full .result) (c .before .before .before .before .before .before .before .before .before .before .read-full .last .1 .0) (λ i. omega (arith, c .before .before .before .before .before .before .before .before .before .before .read-full .kept .1 .1 i)) (omega (arith, c .before .before .before .before .before .before .before .before .before .before .read-full .kept .1 .0)) (sym (c .before .before .before .answer .given .1) ∙ c .before .before .before .before .before .before .rewrite-file .ensures .0)
 
 returns-2 : tie.Need-returns-2
-returns-2 c = answers (c .before .before .before .before .before .before .before .before .before .read-full .result) (c .before .before .before .before .before .before .before .before .before .read-full .last .1 .0) (omega (arith, c .before .before .before .before .before .before .before .before .before .read-full .kept .1 .0)) (sym (c .before .before .answer2 .given .1) ∙ c .before .before .before .before .before .rewrite-file .ensures .0)
+returns-2 c = answers (c .before .before .before .before .before .before .before .before .before .read-full .result) (c .before .before .before .before .before .before .before .before .before .read-full .last .1 .0) (λ i. omega (arith, c .before .before .before .before .before .before .before .before .before .read-full .kept .1 .1 i)) (omega (arith, c .before .before .before .before .before .before .before .before .before .read-full .kept .1 .0)) (sym (c .before .before .answer2 .given .1) ∙ c .before .before .before .before .before .rewrite-file .ensures .0)
 
 pub rewrite-stream-spec : {M : Type 1} → statement M
 rewrite-stream-spec =
