@@ -9,26 +9,38 @@ use Rattle.lists.specs.BelowLaws.{true-or-false}
 use Rattle.netlist.specs.Net.{Net}
 use Rattle.netlist.specs.VerdictLaws.{fine-reader}
 use Rattle.netlist.specs.Checks.{WellFormed}
-use Rattle.netlist.specs.File.{Decoded, good, decode, answer, given}
+use Rattle.netlist.specs.Verdict.{onward, readerVerdict}
+use Rattle.netlist.specs.File.{Decoded, good, decode, decodedNet, judged, fileVerdict, answer, given}
 use Rattle.netlist.specs.declared.Verdict.{Verdict}
 use Rattle.netlist.specs.declared.Verdict.the-variants.{Fine, Refuses}
 use Rattle.behaviour.specs.Run.{runOutputs, runState}
 use Rattle.behaviour.specs.Runs as runs
 use Rattle.behaviour.specs.Runs.{stateWidths, fitting, takes, refusal, outcome, after}
-use Rattle.behaviour.specs.Service.{bytesOf, wordsIn, resetNet, resetAfter, resetDecoded, resetFile, Ran, runNet, runAfter, runDecoded, runFile, Entry, Shown, runsFile}
+use Rattle.behaviour.specs.Service.{bytesOf, wordsIn, resetBy, resetVerdict, resetNet, resetFile, Ran, runBy, runVerdict, runNet, runFile, Entry, Shown, runsFile}
 use Rattle.behaviour.specs.WordBytes.{words-of-bytes, fitting-bytes}
 use Rattle.behaviour.specs.Lending.{takesEntry, lent, takes-lent, words-lent}
 
 -- ---- a file that the reader passes, and its netlist
 
+module _ (s : List ℕ) (N : Net) (fine : readerVerdict N ≡ Fine) (reads : decode s ≡ good N) where
+  pub reset-passed : (st : List ℕ) → resetFile s st ≡ resetNet N st
+  unfolding resetFile resetNet fileVerdict
+  reset-passed st =
+      ap (λ (d : Decoded). resetBy (onward (judged d) (resetVerdict (decodedNet d) st)) (decodedNet d) st) reads
+      ∙ ap (λ (v : Verdict). resetBy (onward v (resetVerdict N st)) N st) fine
+
+  pub run-passed : (st ins outs : List ℕ) → runFile s st ins outs ≡ runNet N st ins outs
+  unfolding runFile runNet fileVerdict
+  run-passed st ins outs =
+      ap (λ (d : Decoded). runBy (onward (judged d) (runVerdict (decodedNet d) st ins outs)) (decodedNet d) st ins outs) reads
+      ∙ ap (λ (v : Verdict). runBy (onward v (runVerdict N st ins outs)) N st ins outs) fine
+
 module _ (s : List ℕ) (N : Net) (wf : WellFormed N) (reads : decode s ≡ good N) where
   pub reset-file : (st : List ℕ) → resetFile s st ≡ resetNet N st
-  unfolding resetFile
-  reset-file st = ap (λ (d : Decoded). resetDecoded d st) reads ∙ ap (λ (v : Verdict). resetAfter v N st) (fine-reader N wf)
+  reset-file = reset-passed s N (fine-reader N wf) reads
 
   pub run-file : (st ins outs : List ℕ) → runFile s st ins outs ≡ runNet N st ins outs
-  unfolding runFile
-  run-file st ins outs = ap (λ (d : Decoded). runDecoded d st ins outs) reads ∙ ap (λ (v : Verdict). runAfter v N st ins outs) (fine-reader N wf)
+  run-file = run-passed s N (fine-reader N wf) reads
 
 -- ---- one run
 

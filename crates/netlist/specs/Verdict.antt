@@ -90,6 +90,11 @@ unfoldable pub verdict : List Stage → Verdict
 verdict [] = Fine
 verdict (s ∷ l) = elim (ltb (lowest (s .over) (s .bad)) (s .over)) [ true ↦ Refuses (s .number) (s .place (lowest (s .over) (s .bad))) | false ↦ verdict l ]
 
+-- checks after others: what they say where those find nothing
+abbrev pub onward : Verdict → Verdict → Verdict
+onward Fine w = w
+onward (Refuses k p) w = Refuses k p
+
 -- what the reader says
 unfoldable pub readerStages : Net → List Stage
 readerStages N = atLowest 6 (size N) (badSource N) ∷ atLowest 7 (size N) (badWidth N) ∷ atLowest 8 (size N) (unread N) ∷ atLowest 9 (size N) (inLoop N) ∷ atLowest 10 (size N) (inRing N) ∷ []

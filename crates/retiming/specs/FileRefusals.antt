@@ -14,8 +14,8 @@ use Rattle.netlist.specs.Net.{Net, size}
 use Rattle.netlist.specs.Checks.{WellFormed}
 use Rattle.netlist.specs.Places.{LowestNode}
 use Rattle.netlist.specs.VerdictLaws.{reader-fine}
-use Rattle.netlist.specs.Verdict.{readerVerdict}
-use Rattle.netlist.specs.File.{good, decode}
+use Rattle.netlist.specs.Verdict.{onward, readerVerdict}
+use Rattle.netlist.specs.File.{Decoded, good, decode, decodedNet, judged, fileVerdict}
 use Rattle.netlist.specs.declared.Answer.the-variants.{Refused}
 use Rattle.netlist.specs.declared.Verdict.{Verdict}
 use Rattle.netlist.specs.declared.Verdict.the-variants.{Fine, Refuses}
@@ -27,7 +27,7 @@ use Rattle.retiming.specs.Rewrite.{rewritten}
 use Rattle.retiming.specs.Debt.{debtVerdict}
 use Rattle.retiming.specs.DebtLaws.{LowestOwing, NoneOwes, search-ports, no-closed, closed-none, refuses-11-iff, refuses-12-iff, refuses-13-iff}
 use Rattle.retiming.specs.PortWalks.{PortOwes, lowest-owing, none-owes}
-use Rattle.retiming.specs.FileRewrite.{debtAfter, rewriterJudged, rewriterVerdict, IsAccepted, rewrittenFile, writtenBy, outVerdict, written, writtenAfter, rewriteFile}
+use Rattle.retiming.specs.FileRewrite.{rewriterVerdict, IsAccepted, rewrittenFile, writtenBy, outVerdict, written, writtenAfter, rewriteFile}
 
 -- ---- 14, and what the answer says of the checks before it
 
@@ -72,8 +72,8 @@ refused-14-iff s out a = rw a (
 
 module _ (s : List ℕ) (b : Bytes s) (N : Net) (reads : decode s ≡ good N) (fine : readerVerdict N ≡ Fine) (out : List ℕ) where
   verdict-is : rewriterVerdict s ≡ debtVerdict N
-  unfolding rewriterVerdict
-  verdict-is = ap rewriterJudged reads ∙ ap (λ (v : Verdict). debtAfter v N) fine
+  unfolding rewriterVerdict fileVerdict
+  verdict-is = ap (λ (d : Decoded). onward (judged d) (debtVerdict (decodedNet d))) reads ∙ ap (λ (v : Verdict). onward v (debtVerdict N)) fine
 
   wf : WellFormed N
   wf = reader-fine N (decode-within s N b reads .fields) fine

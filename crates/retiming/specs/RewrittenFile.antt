@@ -1,6 +1,6 @@
 -- An accepted file and its rewritten file: what the checks leave of the one, and that the other passes the reader. Assumes nothing.
 use mathlib.Core.Path.{_≡_, refl, ap, _∙_}
-use mathlib.Core.Bool.{false, true≢false}
+use mathlib.Core.Bool.{Bool, false, true≢false, cond}
 use mathlib.Core.List.{List, _++_}
 use Prim.Native.Nat.{ℕ, _≤_}
 use native.Mathlib.Omega.{arith}
@@ -13,9 +13,9 @@ use Rattle.netlist.specs.declared.Element.{Element}
 use Rattle.netlist.specs.declared.Element.the-variants.{Input, Output, Register, Async, Clocked, Gate}
 use Rattle.netlist.specs.Net.{Net, elementAt, isAsync}
 use Rattle.netlist.specs.NodeField.{kindOf}
-use Rattle.netlist.specs.Verdict.{readerVerdict}
+use Rattle.netlist.specs.Verdict.{onward, readerVerdict}
 use Rattle.netlist.specs.VerdictLaws.{refuses-not, fine-reader}
-use Rattle.netlist.specs.File.{Decoded, bad, good, decode, judged, fileVerdict, encode}
+use Rattle.netlist.specs.File.{Decoded, bad, good, decode, decodedNet, judged, fileVerdict, encode}
 use Rattle.codec.specs.Bytes.{Bytes}
 use Rattle.codec.specs.Within.{Within}
 use Rattle.codec.specs.DecodeWithin.{decode-within}
@@ -29,7 +29,7 @@ use Rattle.retiming.specs.Debt.{debtVerdict}
 use Rattle.retiming.specs.Retimed.{retimes, rewritten-clocked}
 use Rattle.retiming.specs.Records.{shaped-new, within-shaped}
 use Rattle.retiming.specs.PastDebt.{no-debt, past-debt-alike}
-use Rattle.retiming.specs.FileRewrite.{debtAfter, rewriterJudged, rewriterVerdict, IsAccepted, rewrittenOf, rewrittenFile, written, writtenAfter, rewriteFile, NoAsynchronous}
+use Rattle.retiming.specs.FileRewrite.{rewriterVerdict, IsAccepted, rewrittenOf, rewrittenFile, writtenBy, written, writtenAfter, rewriteFile, NoAsynchronous}
 
 -- ---- what 1 to 13 leave of a file: its netlist, which the reader and the rewriter find nothing to refuse in
 
@@ -40,14 +40,14 @@ pub record Past13 (s : List ℕ) : Type 0 where
   pub debtless : debtVerdict net ≡ Fine
 
 pub past-13 : (s : List ℕ) → IsAccepted s → Past13 s
-unfolding rewriterVerdict
+unfolding rewriterVerdict fileVerdict
 past-13 s h = by-fields (decode s) refl h
   where
-    by-verdict : (N : Net) → decode s ≡ good N → (v : Verdict) → readerVerdict N ≡ v → debtAfter v N ≡ Fine → Past13 s
+    by-verdict : (N : Net) → decode s ≡ good N → (v : Verdict) → readerVerdict N ≡ v → onward v (debtVerdict N) ≡ Fine → Past13 s
     by-verdict N e Fine f d = record { net = N; reads = e; fine = f; debtless = d }
     by-verdict N e (Refuses k p) f d = absurd (refuses-not d)
 
-    by-fields : (d : Decoded) → decode s ≡ d → rewriterJudged d ≡ Fine → Past13 s
+    by-fields : (d : Decoded) → decode s ≡ d → onward (judged d) (debtVerdict (decodedNet d)) ≡ Fine → Past13 s
     by-fields (bad k p) e f = absurd (refuses-not f)
     by-fields (good N) e f = by-verdict N e (readerVerdict N) refl f
 
@@ -56,7 +56,7 @@ pub accepted-written : (s out : List ℕ) → IsAccepted s → length (rewritten
     → rewriteFile s out ≡ record { answer = Accepted (length (rewrittenFile s)); out = rewrittenFile s ++ drop (length (rewrittenFile s)) out }
 unfolding rewriteFile written
 accepted-written s out a long =
-    ap (λ (v : Verdict). writtenAfter v (rewrittenFile s) out) a ∙ rw (le-ltb (length out) (length (rewrittenFile s)) long)
+    ap (λ (v : Verdict). writtenAfter v (rewrittenFile s) out) a ∙ ap (λ (t : Bool). writtenBy (cond t (Refuses 14 65535) Fine) (rewrittenFile s) out) (le-ltb (length out) (length (rewrittenFile s)) long)
 
 not-kind-3 : (e : Element) → isAsync e ≡ false → kindOf e ≡ 3 → ⊥
 not-kind-3 Input h k = omega arith

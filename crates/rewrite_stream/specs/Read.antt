@@ -5,7 +5,7 @@ use Prim.Native.Nat.{ℕ, _≤_}
 use native.Mathlib.Omega.{arith}
 use lib.ListN.{length, take, replicate, length-take}
 use Rattle.netlist.specs.declared.Answer.{Answer}
-use Rattle.codec.specs.Bytes.{Bytes, bytes-take}
+use Rattle.codec.specs.Bytes.{Bytes}
 use Rattle.retiming.specs.FileRewrite.{rewriteFile}
 
 -- some bytes, no more than there is room for, have this answer
@@ -15,5 +15,5 @@ pub record Answers (r : Answer) : Type 0 where
   pub few : length bytes ≤ 46001
   pub answered : r ≡ rewriteFile bytes (replicate 46000 0) .answer
 
-pub answers : (n : ℕ) (l : List ℕ) {r : Answer} → Bytes l → length l ≤ 46001 → r ≡ rewriteFile (take n l) (replicate 46000 0) .answer → Answers r
-answers n l b h e = record { bytes = take n l; each = bytes-take n l b; few = omega (arith, length-take n l); answered = e }
+pub answers : (n : ℕ) (l : List ℕ) {r : Answer} → Bytes (take n l) → length l ≤ 46001 → r ≡ rewriteFile (take n l) (replicate 46000 0) .answer → Answers r
+answers n l b h e = record { bytes = take n l; each = b; few = omega (arith, length-take n l); answered = e }

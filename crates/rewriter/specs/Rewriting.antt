@@ -1,7 +1,7 @@
 -- The rewriting of a file that the reader takes, check by check. Assumes nothing.
-use mathlib.Core.Path.{_≡_, refl, sym, ap, ap₂, subst, _∙_}
+use mathlib.Core.Path.{_≡_, sym, ap, subst, _∙_}
 use mathlib.Core.Logic.{⊎-elim}
-use mathlib.Core.Bool.{Bool, true, false, cond}
+use mathlib.Core.Bool.{true, false}
 use mathlib.Core.List.{List, [], _∷_, _++_}
 use Prim.Native.Nat.{ℕ, _≤_, _<_, zero-le}
 use native.Mathlib.Omega.{arith}
@@ -10,10 +10,10 @@ use lib.Dec.{ltb, lit<}
 use borrow.Author.Tests.{lt-ltb, le-ltb, ltb-false}
 use Rattle.lists.specs.BelowLaws.{true-or-false}
 use Rattle.netlist.specs.Net.{Net, size}
-use Rattle.netlist.specs.Verdict.{ofWhole, verdict, readerVerdict}
+use Rattle.netlist.specs.Verdict.{ofWhole, verdict, onward}
 use Rattle.netlist.specs.Checks.{WellFormed}
 use Rattle.netlist.specs.VerdictLaws.{fine-clear, reader-fine}
-use Rattle.netlist.specs.File.{Decoded, bad, good, netIn, decode, judged, fileVerdict, encode}
+use Rattle.netlist.specs.File.{Decoded, netIn, decode, decodedNet, judged, fileVerdict, encode}
 use Rattle.netlist.specs.declared.Answer.{Answer}
 use Rattle.netlist.specs.declared.Answer.the-variants.{Accepted, Refused}
 use Rattle.netlist.specs.declared.Verdict.{Verdict}
@@ -30,8 +30,8 @@ use Rattle.behaviour.specs.Run.{zeroWord}
 use Rattle.retiming.specs.Leads.{closedDebt}
 use Rattle.retiming.specs.Rewrite.{places, nodeOf, timing, rewrittenWith, rewritten}
 use Rattle.retiming.specs.Debt.{grown, debtVerdict}
-use Rattle.retiming.specs.FileRewrite.{debtAfter, rewriterJudged, rewriterVerdict, rewrittenOf, rewrittenFile, Rewrote, written, writtenAfter, rewriteFile}
-use Rattle.leads.specs.Debts.{debtsVerdict, onward, debts-first}
+use Rattle.retiming.specs.FileRewrite.{rewriterVerdict, rewrittenOf, rewrittenFile, Rewrote, written, writtenAfter, rewriteFile}
+use Rattle.leads.specs.Debts.{debtsVerdict, debts-first}
 use Rattle.layout.specs.Written.{TablesCame}
 
 -- ---- 13
@@ -97,18 +97,15 @@ no-closed-debt N e q = fine-clear _ (sym e ∙ q) .0 0 (lit< tt)
 
 -- ---- the file
 
-refused-file : (d : Decoded) (out : List ℕ) (k p : ℕ) → judged d ≡ Refuses k p → record { answer = Refused k p; out = out } ≡ writtenAfter (rewriterJudged d) (rewrittenOf d) out
-refused-file (bad a b) out k p e = let x : k ≡ a = cc in let y : p ≡ b = cc in λ i. record { answer = Refused (x i) (y i); out = out }
-refused-file (good N) out k p e = sym (ap (λ (v : Verdict). writtenAfter (debtAfter v N) (encode (rewritten N)) out) e)
-
 pub file-refused : (s out : List ℕ) {k p : ℕ} → fileVerdict s ≡ Refuses k p → record { answer = Refused k p; out = out } ≡ rewriteFile s out
-unfolding rewriteFile rewriterVerdict rewrittenFile fileVerdict
-file-refused s out {k} {p} e = refused-file (decode s) out k p e
+unfolding rewriteFile rewriterVerdict
+file-refused s out e = sym (ap (λ (v : Verdict). writtenAfter (onward v (debtVerdict (decodedNet (decode s)))) (rewrittenFile s) out) e)
 
 pub file-taken : {s ts ns order : List ℕ} → Open s ts ns order → (out : List ℕ) → netOutcome (netIn s ts ns) out ≡ rewriteFile s out
-unfolding rewriteFile rewriterVerdict rewrittenFile
+unfolding rewriteFile rewriterVerdict rewrittenFile fileVerdict
 file-taken {s} {ts} {ns} o out =
-    sym (ap (λ (d : Decoded). writtenAfter (rewriterJudged d) (rewrittenOf d) out) (decoded-as s ts ns (o .scanned)) ∙ ap (λ (v : Verdict). writtenAfter (debtAfter v (netIn s ts ns)) (encode (rewritten (netIn s ts ns))) out) (o .fine))
+    sym (ap (λ (d : Decoded). writtenAfter (onward (judged d) (debtVerdict (decodedNet d))) (rewrittenOf d) out) (decoded-as s ts ns (o .scanned))
+    ∙ ap (λ (v : Verdict). writtenAfter (onward v (debtVerdict (netIn s ts ns))) (encode (rewritten (netIn s ts ns))) out) (o .fine))
 
 -- ---- what opening leaves
 

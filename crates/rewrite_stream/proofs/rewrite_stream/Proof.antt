@@ -18,23 +18,23 @@ read-full-requires c κs = search needs
 array-share-prefix-file : tie.Need-array-share-prefix-file
 array-share-prefix-file c = search needs
 
-slice-aggregate-rewrite-file : tie.Need-slice-aggregate-rewrite-file
-slice-aggregate-rewrite-file c = search needs
+slice-aggregate-rewrite-bytes : tie.Need-slice-aggregate-rewrite-bytes
+slice-aggregate-rewrite-bytes c = search needs
 
-slice-aggregate-rewrite-file-2 : tie.Need-slice-aggregate-rewrite-file-2
-slice-aggregate-rewrite-file-2 c = search needs
+slice-aggregate-rewrite-bytes-2 : tie.Need-slice-aggregate-rewrite-bytes-2
+slice-aggregate-rewrite-bytes-2 c = search needs
 
-rewrite-file-requires : tie.Need-rewrite-file-requires
-rewrite-file-requires c κs = search needs
+rewrite-bytes-requires : tie.Need-rewrite-bytes-requires
+rewrite-bytes-requires c κs = search needs
 
 enum-known-answer : tie.Need-enum-known-answer
 enum-known-answer c = search needs
 
 array-share-prefix-out : tie.Need-array-share-prefix-out
-array-share-prefix-out c = omega (arith, accepted-inside _ _ (c .before .before .before .before .rewrite-file .ensures .0) (c .before .answer .given .1), c .before .before .before .before .rewrite-file .kept .1 .0)
+array-share-prefix-out c = omega (arith, accepted-inside _ _ (c .before .before .before .before .rewrite-bytes .ensures .0) (c .before .answer .given .1), c .before .before .before .before .rewrite-bytes .kept .1 .0)
 
 slice-aggregate-write-all : tie.Need-slice-aggregate-write-all
-slice-aggregate-write-all c = sym (length-take-le _ _ (omega (arith, accepted-inside _ _ (c .before .before .before .before .before .rewrite-file .ensures .0) (c .before .before .answer .given .1), c .before .before .before .before .before .rewrite-file .kept .1 .0)))
+slice-aggregate-write-all c = sym (length-take-le _ _ (omega (arith, accepted-inside _ _ (c .before .before .before .before .before .rewrite-bytes .ensures .0) (c .before .before .answer .given .1), c .before .before .before .before .before .rewrite-bytes .kept .1 .0)))
 
 write-all-requires : tie.Need-write-all-requires
 write-all-requires c κs = search needs
@@ -46,10 +46,10 @@ write-refusal-requires : tie.Need-write-refusal-requires
 write-refusal-requires c κs = search needs
 
 returns : tie.Need-returns
-returns c = answers (c .before .before .before .before .before .before .before .before .before .before .read-full .result) (c .before .before .before .before .before .before .before .before .before .before .read-full .last .1 .0) (λ i. omega (arith, c .before .before .before .before .before .before .before .before .before .before .read-full .kept .1 .1 i)) (omega (arith, c .before .before .before .before .before .before .before .before .before .before .read-full .kept .1 .0)) (sym (c .before .before .before .answer .given .1) ∙ c .before .before .before .before .before .before .rewrite-file .ensures .0)
+returns c = answers (c .before .before .before .before .before .before .before .before .before .before .read-full .result) (c .before .before .before .before .before .before .before .before .before .before .read-full .last .1 .0) (c .before .before .before .before .before .before .rewrite-bytes .ensures .1) (omega (arith, c .before .before .before .before .before .before .before .before .before .before .read-full .kept .1 .0)) (sym (c .before .before .before .answer .given .1) ∙ c .before .before .before .before .before .before .rewrite-bytes .ensures .0)
 
 returns-2 : tie.Need-returns-2
-returns-2 c = answers (c .before .before .before .before .before .before .before .before .before .read-full .result) (c .before .before .before .before .before .before .before .before .before .read-full .last .1 .0) (λ i. omega (arith, c .before .before .before .before .before .before .before .before .before .read-full .kept .1 .1 i)) (omega (arith, c .before .before .before .before .before .before .before .before .before .read-full .kept .1 .0)) (sym (c .before .before .answer2 .given .1) ∙ c .before .before .before .before .before .rewrite-file .ensures .0)
+returns-2 c = answers (c .before .before .before .before .before .before .before .before .before .read-full .result) (c .before .before .before .before .before .before .before .before .before .read-full .last .1 .0) (c .before .before .before .before .before .rewrite-bytes .ensures .1) (omega (arith, c .before .before .before .before .before .before .before .before .before .read-full .kept .1 .0)) (sym (c .before .before .answer2 .given .1) ∙ c .before .before .before .before .before .rewrite-bytes .ensures .0)
 
 pub rewrite-stream-spec : {M : Type 1} → statement M
 rewrite-stream-spec =
@@ -58,9 +58,9 @@ rewrite-stream-spec =
     slice-aggregate-read-full
     read-full-requires
     array-share-prefix-file
-    slice-aggregate-rewrite-file
-    slice-aggregate-rewrite-file-2
-    rewrite-file-requires
+    slice-aggregate-rewrite-bytes
+    slice-aggregate-rewrite-bytes-2
+    rewrite-bytes-requires
     enum-known-answer
     array-share-prefix-out
     slice-aggregate-write-all
