@@ -8,14 +8,13 @@ use lib.Seq.{length-take-le, getD-take}
 use Rattle.lists.specs.Lists.{concatMap}
 use Rattle.words.specs.Words.{bytes}
 use Rattle.lists.specs.Paths.{on-lt, off-lt}
-use Rattle.netlist.specs.Net.{Table, noTable, spelled, Net, size, nodeAt}
+use Rattle.netlist.specs.Net.{Table, spelled, Net, size, nodeAt}
 use Rattle.netlist.specs.NodeField.{noNode}
-use Rattle.netlist.specs.TableField.{tableContent, tableRead}
+use Rattle.netlist.specs.TableField.{tableContent}
 use Rattle.netlist.specs.Field.{lengthAt, content}
-use Rattle.netlist.specs.Verdict.{readerVerdict}
-use Rattle.netlist.specs.ScanLaws.{TableAt, Found, scan-found}
-use Rattle.netlist.specs.File.{Decoded, bad, good, tableIn, netIn, decode, judged, fileVerdict}
-use Rattle.netlist.specs.FileLaws.{size-in, table-in, table-out}
+use Rattle.netlist.specs.ScanLaws.{Found, scan-found}
+use Rattle.netlist.specs.File.{tableIn, netIn, decode, fileVerdict}
+use Rattle.netlist.specs.FileLaws.{size-in, tables-in, table-in}
 use Rattle.netlist.specs.declared.Answer.the-variants.{Accepted, Refused}
 use Rattle.netlist.specs.declared.Node.{Node}
 use Rattle.netlist.specs.declared.Scanned.{Scanned}
@@ -25,60 +24,71 @@ use Rattle.netlist.specs.declared.Verdict.the-variants.{Fine, Refuses}
 use Rattle.codec.specs.Bytes.{Bytes, bytes-take, bytes-drop}
 use Rattle.codec.specs.TableCame.{table-as-it-came}
 use Rattle.checks.specs.Open.{Open, Opened}
-use Rattle.checks.specs.Services.{nodeOfNet, nodeAfter, nodeDecoded, nodeOfFile, wordsOfNet, wordsAfter, wordsDecoded, wordsOfFile}
+use Rattle.checks.specs.Services.{netOf, numbered, nodeBy, nodeOfFile, wordsOfNet, wordsBy, wordsOfFile}
+use Rattle.checks.specs.Places.{Placed}
 use Rattle.checks.specs.declared.NodeAnswer.{NodeAnswer}
-use Rattle.checks.specs.Opens.{decoded-as, opened-fields}
+use Rattle.checks.specs.declared.TablePlace.the-variants.{At, Refuse}
+use Rattle.checks.specs.Opens.{judged-by, decoded-as, opened-fields}
+
+pub has-number : (v n : ℕ) → v < n → numbered Fine v n ≡ Fine
+has-number v n h = sym (on-lt _ _ v n h refl)
+
+pub no-number : (v n : ℕ) → n ≤ v → numbered Fine v n ≡ Refuses 6 65535
+no-number v n h = sym (off-lt _ _ v n h refl)
 
 -- ---- a node
 
-node-none : (d : Decoded) (v k p : ℕ) → judged d ≡ Refuses k p → record { answer = Refused k p; node = noNode } ≡ nodeDecoded d v
-node-none (bad a b) v k p e = let x : k ≡ a = cc in let y : p ≡ b = cc in λ i. record { answer = Refused (x i) (y i); node = noNode }
-node-none (good N) v k p e = sym (ap (λ (w : Verdict). nodeAfter w N v) e)
-
 pub node-refused : (s : List ℕ) (v : ℕ) {k p : ℕ} → fileVerdict s ≡ Refuses k p → record { answer = Refused k p; node = noNode } ≡ nodeOfFile s v
-unfolding nodeOfFile fileVerdict
-node-refused s v {k} {p} e = node-none (decode s) v k p e
+unfolding nodeOfFile
+node-refused s v e = let N = netOf (decode s) in sym (ap (λ (w : Verdict). nodeBy (numbered w v (size N)) N v) e)
 
 module _ {s ts ns order : List ℕ} (o : Open s ts ns order) where
-  of-net : (v : ℕ) → nodeOfFile s v ≡ nodeOfNet (netIn s ts ns) v
+  passed : fileVerdict s ≡ Fine
+  passed = judged-by s ts ns (o .scanned) ∙ o .fine
+
+  the-net : netOf (decode s) ≡ netIn s ts ns
+  the-net = ap netOf (decoded-as s ts ns (o .scanned))
+
+  node-of : (v : ℕ) {w : Verdict} → numbered Fine v (size (netIn s ts ns)) ≡ w → nodeBy w (netIn s ts ns) v ≡ nodeOfFile s v
   unfolding nodeOfFile
-  of-net v = ap (λ (d : Decoded). nodeDecoded d v) (decoded-as s ts ns (o .scanned)) ∙ ap (λ (w : Verdict). nodeAfter w (netIn s ts ns) v) (o .fine)
+  node-of v e = sym (ap₂ (λ (N : Net) (w : Verdict). nodeBy (numbered w v (size N)) N v) the-net passed ∙ ap (λ (w : Verdict). nodeBy w (netIn s ts ns) v) e)
 
   pub node-there : (v : ℕ) → v < length ns → (x : Node) → x ≡ nodeAt (netIn s ts ns) v → record { answer = Accepted (length ns); node = x } ≡ nodeOfFile s v
-  unfolding nodeOfNet
   node-there v h x e =
       let z = size-in s ts ns in
-      on-lt _ _ v (size (netIn s ts ns)) (omega arith) (λ i. record { answer = Accepted (sym z i); node = e i }) ∙ sym (of-net v)
+      (λ i. record { answer = Accepted (sym z i); node = e i }) ∙ node-of v (has-number v _ (omega arith))
 
   pub node-missing : (v : ℕ) → length ns ≤ v → record { answer = Refused 6 65535; node = noNode } ≡ nodeOfFile s v
-  unfolding nodeOfNet
-  node-missing v h = let z = size-in s ts ns in off-lt _ _ v (size (netIn s ts ns)) (omega arith) refl ∙ sym (of-net v)
+  node-missing v h = let z = size-in s ts ns in node-of v (no-number v _ (omega arith))
 
 -- ---- a table's words
 
-words-none : (d : Decoded) (k a b : ℕ) → judged d ≡ Refuses a b → [] ≡ wordsDecoded d k
-words-none (bad x y) k a b e = refl
-words-none (good N) k a b e = sym (ap (λ (w : Verdict). wordsAfter w N k) e)
-
-pub words-refused : (s : List ℕ) (k : ℕ) {a b : ℕ} → fileVerdict s ≡ Refuses a b → [] ≡ wordsOfFile s k
-unfolding wordsOfFile fileVerdict
-words-refused s k {a} {b} e = words-none (decode s) k a b e
+pub words-refused : (s : List ℕ) (k : ℕ) {a b : ℕ} → fileVerdict s ≡ Refuses a b → Placed s k (Refuse a b)
+unfolding wordsOfFile
+words-refused s k e =
+    let N = netOf (decode s) in
+    record { standing = tt; served = sym (ap (λ (w : Verdict). wordsBy (numbered w k (length (N .tables))) (wordsOfNet N k)) e) }
 
 module _ {s ts ns order : List ℕ} (o : Open s ts ns order) where
-  words-of-net : (k : ℕ) → wordsOfFile s k ≡ wordsOfNet (netIn s ts ns) k
+  words-of : (k : ℕ) {w : Verdict} → numbered Fine k (length (netIn s ts ns .tables)) ≡ w → wordsBy w (wordsOfNet (netIn s ts ns) k) ≡ wordsOfFile s k
   unfolding wordsOfFile
-  words-of-net k = ap (λ (d : Decoded). wordsDecoded d k) (decoded-as s ts ns (o .scanned)) ∙ ap (λ (w : Verdict). wordsAfter w (netIn s ts ns) k) (o .fine)
+  words-of k e =
+      sym (ap₂ (λ (N : Net) (w : Verdict). wordsBy (numbered w k (length (N .tables))) (wordsOfNet N k)) (the-net o) (passed o) ∙ ap (λ (w : Verdict). wordsBy w (wordsOfNet (netIn s ts ns) k)) e)
 
-  pub words-missing : (k : ℕ) → length ts ≤ k → [] ≡ wordsOfFile s k
-  unfolding wordsOfNet spelled
-  words-missing k h = sym (words-of-net k ∙ ap (λ (t : Table). concatMap bytes (spelled t)) (table-out s ts ns k h))
+  pub words-missing : (k : ℕ) → length ts ≤ k → Placed s k (Refuse 6 65535)
+  words-missing k h = let z = tables-in s ts ns in record { standing = tt; served = words-of k (no-number k _ (omega arith)) }
 
-  pub words-there : Bytes s → (k : ℕ) → k < length ts → drop 2 (content s (getD ts k 0)) ≡ wordsOfFile s k
-  unfolding wordsOfNet tableIn tableContent
-  words-there b k h =
+  came : Bytes s → (k : ℕ) → k < length ts → drop 2 (content s (getD ts k 0)) ≡ wordsOfNet (netIn s ts ns) k
+  unfolding tableIn tableContent
+  came b k h =
       let at = getD ts k 0 in
       let c = content s at in
-      sym (words-of-net k ∙ ap (λ (t : Table). concatMap bytes (spelled t)) (table-in s ts ns k h) ∙ ap (drop 2) (table-as-it-came c (bytes-take (lengthAt s at) (drop (at + 3) s) (bytes-drop (at + 3) s b)) (scan-found s ts ns (o .scanned) .tables k h .good)))
+      sym (ap (λ (t : Table). concatMap bytes (spelled t)) (table-in s ts ns k h) ∙ ap (drop 2) (table-as-it-came c (bytes-take (lengthAt s at) (drop (at + 3) s) (bytes-drop (at + 3) s b)) (scan-found s ts ns (o .scanned) .tables k h .good)))
+
+  pub words-there : Bytes s → (k : ℕ) → k < length ts → Placed s k (At (getD ts k 0))
+  words-there b k h =
+      let z = tables-in s ts ns in
+      record { standing = scan-found s ts ns (o .scanned) .tables k h; served = ap (wordsBy Fine) (came b k h) ∙ words-of k (has-number k _ (omega arith)) }
 
 -- ---- the same, from what opening left in the work areas
 
@@ -101,14 +111,10 @@ module _ {s us vs order : List ℕ} {r : Scanned} {t n : ℕ} (w : Opened s us v
   pub no-node : (v : ℕ) → n ≤ v → record { answer = Refused 6 65535; node = noNode } ≡ nodeOfFile s v
   no-node v h = let l = nodes-length in node-missing open-with v (omega arith)
 
-  offset-at : (k : ℕ) → k < t → getD (take t us) k 0 ≡ getD us k 0
-  offset-at k h = getD-take t us k 0 h
+  pub served-place : Bytes s → (k at : ℕ) → k < t → at ≡ getD us k 0 → Placed s k (At at)
+  served-place b k at h q =
+      let l = tables-length in
+      subst (λ (a : ℕ). Placed s k (At a)) (getD-take t us k 0 h ∙ sym q) (words-there open-with b k (omega arith))
 
-  pub table-there : (k at : ℕ) → k < t → at ≡ getD us k 0 → TableAt s at
-  table-there k at h q = let l = tables-length in subst (TableAt s) (offset-at k h ∙ sym q) (index-found .tables k (omega arith))
-
-  pub served-words : Bytes s → (k at : ℕ) → k < t → at ≡ getD us k 0 → drop 2 (content s at) ≡ wordsOfFile s k
-  served-words b k at h q = let l = tables-length in ap (λ (a : ℕ). drop 2 (content s a)) (q ∙ sym (offset-at k h)) ∙ words-there open-with b k (omega arith)
-
-  pub no-words : (k : ℕ) → t ≤ k → [] ≡ wordsOfFile s k
-  no-words k h = let l = tables-length in words-missing open-with k (omega arith)
+  pub no-place : (k : ℕ) → t ≤ k → Placed s k (Refuse 6 65535)
+  no-place k h = let l = tables-length in words-missing open-with k (omega arith)

@@ -7,43 +7,39 @@ use Rattle.lists.specs.Lists.{concatMap}
 use Rattle.lists.specs.Paths.{pick}
 use Rattle.words.specs.Words.{bytes}
 use Rattle.netlist.specs.Net.{noTable, spelled, Net, size, nodeAt}
-use Rattle.netlist.specs.Verdict.{readerVerdict}
 use Rattle.netlist.specs.NodeField.{noNode}
-use Rattle.netlist.specs.File.{Decoded, bad, good, decode}
-use Rattle.netlist.specs.declared.Answer.the-variants.{Accepted, Refused}
+use Rattle.netlist.specs.File.{Decoded, bad, good, decode, fileVerdict, answer, given, noNet}
+use Rattle.netlist.specs.declared.Answer.{Answer}
 use Rattle.netlist.specs.declared.Verdict.{Verdict}
 use Rattle.netlist.specs.declared.Verdict.the-variants.{Fine, Refuses}
 use Rattle.checks.specs.declared.NodeAnswer.{NodeAnswer}
 
--- node v: accepted with the number of nodes, or 6 ("no such node") with place 65,535; a file that is refused has no node
-unfoldable pub nodeOfNet : Net → ℕ → NodeAnswer
-nodeOfNet N v =
-    pick (ltb v (size N))
-    (record { answer = Accepted (size N); node = nodeAt N v })
-    (record { answer = Refused 6 65535; node = noNode })
+abbrev pub netOf : Decoded → Net
+netOf (bad k p) = noNet
+netOf (good N) = N
 
-abbrev pub nodeAfter : Verdict → Net → ℕ → NodeAnswer
-nodeAfter Fine N v = nodeOfNet N v
-nodeAfter (Refuses k p) N v = record { answer = Refused k p; node = noNode }
+-- of a file that passes: 6 ("no such node or table") with place 65,535 where the number asked for is not below how many there are
+abbrev pub numbered : Verdict → ℕ → ℕ → Verdict
+numbered Fine v n = pick (ltb v n) Fine (Refuses 6 65535)
+numbered (Refuses k p) v n = Refuses k p
 
-abbrev pub nodeDecoded : Decoded → ℕ → NodeAnswer
-nodeDecoded (bad k p) v = record { answer = Refused k p; node = noNode }
-nodeDecoded (good N) v = nodeAfter (readerVerdict N) N v
+-- node v, accepted with the number of nodes
+abbrev pub nodeBy : Verdict → Net → ℕ → NodeAnswer
+nodeBy w N v = record { answer = answer w (size N); node = given w (nodeAt N v) noNode }
 
 unfoldable pub nodeOfFile : List ℕ → ℕ → NodeAnswer
-nodeOfFile s v = nodeDecoded (decode s) v
+nodeOfFile s v = let N = netOf (decode s) in nodeBy (numbered (fileVerdict s) v (size N)) N v
 
--- the words of table k as bytes; none where there is no such table or the file is refused
-unfoldable pub wordsOfNet : Net → ℕ → List ℕ
+-- the words of table k as bytes, accepted with the number of bytes
+abbrev pub wordsOfNet : Net → ℕ → List ℕ
 wordsOfNet N k = concatMap bytes (spelled (getD (N .tables) k noTable))
 
-abbrev pub wordsAfter : Verdict → Net → ℕ → List ℕ
-wordsAfter Fine N k = wordsOfNet N k
-wordsAfter (Refuses a b) N k = []
+pub record WordsAnswer : Type 0 where
+  pub answer : Answer
+  pub words : List ℕ
 
-abbrev pub wordsDecoded : Decoded → ℕ → List ℕ
-wordsDecoded (bad a b) k = []
-wordsDecoded (good N) k = wordsAfter (readerVerdict N) N k
+abbrev pub wordsBy : Verdict → List ℕ → WordsAnswer
+wordsBy w words = record { answer = answer w (length words); words = given w words [] }
 
-unfoldable pub wordsOfFile : List ℕ → ℕ → List ℕ
-wordsOfFile s k = wordsDecoded (decode s) k
+unfoldable pub wordsOfFile : List ℕ → ℕ → WordsAnswer
+wordsOfFile s k = let N = netOf (decode s) in wordsBy (numbered (fileVerdict s) k (length (N .tables))) (wordsOfNet N k)

@@ -21,16 +21,29 @@ ghost use lib.ListN.{length};
 ghost use Rattle.netlist.specs.Net.{inClock, Sourced};
 ghost use Rattle.netlist.specs.Verdict.{verdict, readerVerdict};
 ghost use Rattle.netlist.specs.ScanLaws.{Found};
-ghost use Rattle.netlist.specs.File.{netIn, fileVerdict, checkAnswer};
+ghost use Rattle.netlist.specs.File.{netIn, fileVerdict, answer, checkAnswer};
 ghost use Rattle.columns.specs.Columns.{Columns, Widths};
 ghost use Rattle.order.specs.Order.{Complete};
 ghost use Rattle.checks.specs.Open.{fromNine, Opened, Columned};
 ghost use Rattle.checks.specs.Services.{nodeOfFile, wordsOfFile};
+ghost use Rattle.checks.specs.Places.{Standing, wordsAt, placeVerdict, Placed};
 
 // A node, or why there is none. (An enum that holds an array is not covered: the answer stands beside the node.)
 pub struct NodeAnswer {
     pub answer: Answer,
     pub node: Node,
+}
+
+// The words of a table, as the part of the caller's file that holds them, or why there are none: then the part is empty.
+pub struct TableAnswer<'a> {
+    pub answer: Answer,
+    pub words: &'a [u8],
+}
+
+// The offset of a table's field, or a refusal.
+enum TablePlace {
+    At(usize),
+    Refuse(u8, u16),
 }
 
 // Checks 9 and 10.
@@ -191,21 +204,52 @@ pub fn read_node(file: &[u8], v: usize) -> NodeAnswer
     }
 }
 
-// The words of table k, as the part of the caller's file that holds them.
-pub fn table_words(file: &[u8], k: usize) -> &[u8]
-    ensures { λ r. ⌜ now r ≡ wordsOfFile (now (file .entry)) k ⌝ }
+// Where table k of a file stands, or why there is none.
+fn table_place(file: &[u8], k: usize) -> TablePlace
+    ensures { λ r. ⌜ Placed (now (file .entry)) k r ⌝ }
 {
     let mut tables = [0u16; 16];
     let mut nodes = [0u16; 1024];
     let mut order = [0u16; 1024];
     match open_file(file, &mut tables, &mut nodes, &mut order) {
-        Scanned::Refuse(_, _) => &file[..0],
+        Scanned::Refuse(number, place) => TablePlace::Refuse(number, place),
         Scanned::Fields(t, _) => {
             if k < t {
-                table_part(file, wide(tables[k]))
+                TablePlace::At(wide(tables[k]))
             } else {
-                &file[..0]
+                TablePlace::Refuse(6, 65535)
             }
         }
     }
+}
+
+// The words of the table that stands there.
+fn words_at(file: &[u8], place: TablePlace) -> &[u8]
+    requires { ⌜ Standing (now file) place ⌝ }
+    ensures { λ r. ⌜ now r ≡ wordsAt (now (file .entry)) place ⌝ }
+{
+    match place {
+        TablePlace::At(at) => table_part(file, at),
+        TablePlace::Refuse(_, _) => &file[..0],
+    }
+}
+
+// The answer that goes with them.
+fn answer_with(place: TablePlace, words: &[u8]) -> Answer
+    ensures { λ r. ⌜ r ≡ answer (placeVerdict place) (length (now (words .entry))) ⌝ }
+{
+    match place {
+        TablePlace::At(_) => Answer::Accepted(words.len()),
+        TablePlace::Refuse(number, place) => Answer::Refused(number, place),
+    }
+}
+
+// The words of table k. (A function over a struct that holds a reference is proved by hand: the work is done in the three above.)
+pub fn table_words<'a>(file: &'a [u8], k: usize) -> TableAnswer<'a>
+    ensures { λ r. ⌜ (r .answer ≡ wordsOfFile (now (file .entry)) k .answer) × (now (r .words) ≡ wordsOfFile (now (file .entry)) k .words) ⌝ }
+{
+    let place = table_place(file, k);
+    let words = words_at(file, place);
+    let answer = answer_with(place, words);
+    TableAnswer { answer, words }
 }
