@@ -1,6 +1,6 @@
 -- A node and a table's words of an opened file, over plain values. Assumes nothing.
 use mathlib.Core.Path.{_≡_, refl, sym, ap, ap₂, subst, _∙_}
-use mathlib.Core.List.{List, []}
+use mathlib.Core.List.{List}
 use Prim.Native.Nat.{ℕ, _+_, _≤_, _<_}
 use native.Mathlib.Omega.{arith}
 use lib.ListN.{length, getD, take, drop}
@@ -26,14 +26,13 @@ use Rattle.codec.specs.TableCame.{table-as-it-came}
 use Rattle.checks.specs.Open.{Open, Opened}
 use Rattle.checks.specs.Services.{netOf, numbered, nodeBy, nodeOfFile, wordsOfNet, wordsBy, wordsOfFile}
 use Rattle.checks.specs.Places.{Placed}
-use Rattle.checks.specs.declared.NodeAnswer.{NodeAnswer}
 use Rattle.checks.specs.declared.TablePlace.the-variants.{At, Refuse}
 use Rattle.checks.specs.Opens.{judged-by, decoded-as, opened-fields}
 
-pub has-number : (v n : ℕ) → v < n → numbered Fine v n ≡ Fine
+has-number : (v n : ℕ) → v < n → numbered Fine v n ≡ Fine
 has-number v n h = sym (on-lt _ _ v n h refl)
 
-pub no-number : (v n : ℕ) → n ≤ v → numbered Fine v n ≡ Refuses 6 65535
+no-number : (v n : ℕ) → n ≤ v → numbered Fine v n ≡ Refuses 6 65535
 no-number v n h = sym (off-lt _ _ v n h refl)
 
 -- ---- a node

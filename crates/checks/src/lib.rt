@@ -21,7 +21,7 @@ ghost use lib.ListN.{length};
 ghost use Rattle.netlist.specs.Net.{inClock, Sourced};
 ghost use Rattle.netlist.specs.Verdict.{verdict, readerVerdict};
 ghost use Rattle.netlist.specs.ScanLaws.{Found};
-ghost use Rattle.netlist.specs.File.{netIn, fileVerdict, answer, checkAnswer};
+ghost use Rattle.netlist.specs.File.{netIn, answer, checkAnswer};
 ghost use Rattle.columns.specs.Columns.{Columns, Widths};
 ghost use Rattle.order.specs.Order.{Complete};
 ghost use Rattle.checks.specs.Open.{fromNine, Opened, Columned};

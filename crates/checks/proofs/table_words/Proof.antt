@@ -28,7 +28,7 @@ use denote.Signature.{plain, namedLft}
 use denote.Slice.{sliceVal, ShrSlice, slice-vals, shr-slice-tells, shr-slice-lawful, shr-slice-copy}
 use denote.Steps.{peeks, facts, heard, nothing, owned}
 use denote.Enum.Laws as EL
-use denote.Struct.Declared.{Declared, shape}
+use denote.Struct.Declared.{shape}
 use denote.Struct.Field.{rows}
 use denote.Struct.Laws as LL
 use denote.Struct.Struct.{within}
