@@ -9,11 +9,12 @@ use Rattle.lists.specs.Lists.{concatMap}
 use Rattle.words.specs.Words.{bytes}
 use Rattle.lists.specs.Paths.{on-lt, off-lt}
 use Rattle.netlist.specs.Net.{Table, spelled, Net, size, nodeAt}
+use Rattle.netlist.specs.Verdict.{onward}
 use Rattle.netlist.specs.NodeField.{noNode}
 use Rattle.netlist.specs.TableField.{tableContent}
 use Rattle.netlist.specs.Field.{lengthAt, content}
 use Rattle.netlist.specs.ScanLaws.{Found, scan-found}
-use Rattle.netlist.specs.File.{tableIn, netIn, decode, fileVerdict}
+use Rattle.netlist.specs.File.{tableIn, netIn, decode, decodedNet, fileVerdict}
 use Rattle.netlist.specs.FileLaws.{size-in, tables-in, table-in}
 use Rattle.netlist.specs.declared.Answer.the-variants.{Accepted, Refused}
 use Rattle.netlist.specs.declared.Node.{Node}
@@ -24,33 +25,33 @@ use Rattle.netlist.specs.declared.Verdict.the-variants.{Fine, Refuses}
 use Rattle.codec.specs.Bytes.{Bytes, bytes-take, bytes-drop}
 use Rattle.codec.specs.TableCame.{table-as-it-came}
 use Rattle.checks.specs.Open.{Open, Opened}
-use Rattle.checks.specs.Services.{netOf, numbered, nodeBy, nodeOfFile, wordsOfNet, wordsBy, wordsOfFile}
+use Rattle.checks.specs.Services.{numbered, nodeBy, nodeOfFile, wordsOfNet, wordsBy, wordsOfFile}
 use Rattle.checks.specs.Places.{Placed}
 use Rattle.checks.specs.declared.TablePlace.the-variants.{At, Refuse}
 use Rattle.checks.specs.Opens.{judged-by, decoded-as, opened-fields}
 
-has-number : (v n : ℕ) → v < n → numbered Fine v n ≡ Fine
+has-number : (v n : ℕ) → v < n → numbered v n ≡ Fine
 has-number v n h = sym (on-lt _ _ v n h refl)
 
-no-number : (v n : ℕ) → n ≤ v → numbered Fine v n ≡ Refuses 6 65535
+no-number : (v n : ℕ) → n ≤ v → numbered v n ≡ Refuses 6 65535
 no-number v n h = sym (off-lt _ _ v n h refl)
 
 -- ---- a node
 
 pub node-refused : (s : List ℕ) (v : ℕ) {k p : ℕ} → fileVerdict s ≡ Refuses k p → record { answer = Refused k p; node = noNode } ≡ nodeOfFile s v
 unfolding nodeOfFile
-node-refused s v e = let N = netOf (decode s) in sym (ap (λ (w : Verdict). nodeBy (numbered w v (size N)) N v) e)
+node-refused s v e = let N = decodedNet (decode s) in sym (ap (λ (w : Verdict). nodeBy (onward w (numbered v (size N))) N v) e)
 
 module _ {s ts ns order : List ℕ} (o : Open s ts ns order) where
   passed : fileVerdict s ≡ Fine
   passed = judged-by s ts ns (o .scanned) ∙ o .fine
 
-  the-net : netOf (decode s) ≡ netIn s ts ns
-  the-net = ap netOf (decoded-as s ts ns (o .scanned))
+  the-net : decodedNet (decode s) ≡ netIn s ts ns
+  the-net = ap decodedNet (decoded-as s ts ns (o .scanned))
 
-  node-of : (v : ℕ) {w : Verdict} → numbered Fine v (size (netIn s ts ns)) ≡ w → nodeBy w (netIn s ts ns) v ≡ nodeOfFile s v
+  node-of : (v : ℕ) {w : Verdict} → numbered v (size (netIn s ts ns)) ≡ w → nodeBy w (netIn s ts ns) v ≡ nodeOfFile s v
   unfolding nodeOfFile
-  node-of v e = sym (ap₂ (λ (N : Net) (w : Verdict). nodeBy (numbered w v (size N)) N v) the-net passed ∙ ap (λ (w : Verdict). nodeBy w (netIn s ts ns) v) e)
+  node-of v e = sym (ap₂ (λ (N : Net) (w : Verdict). nodeBy (onward w (numbered v (size N))) N v) the-net passed ∙ ap (λ (w : Verdict). nodeBy w (netIn s ts ns) v) e)
 
   pub node-there : (v : ℕ) → v < length ns → (x : Node) → x ≡ nodeAt (netIn s ts ns) v → record { answer = Accepted (length ns); node = x } ≡ nodeOfFile s v
   node-there v h x e =
@@ -65,14 +66,14 @@ module _ {s ts ns order : List ℕ} (o : Open s ts ns order) where
 pub words-refused : (s : List ℕ) (k : ℕ) {a b : ℕ} → fileVerdict s ≡ Refuses a b → Placed s k (Refuse a b)
 unfolding wordsOfFile
 words-refused s k e =
-    let N = netOf (decode s) in
-    record { standing = tt; served = sym (ap (λ (w : Verdict). wordsBy (numbered w k (length (N .tables))) (wordsOfNet N k)) e) }
+    let N = decodedNet (decode s) in
+    record { standing = tt; served = sym (ap (λ (w : Verdict). wordsBy (onward w (numbered k (length (N .tables)))) (wordsOfNet N k)) e) }
 
 module _ {s ts ns order : List ℕ} (o : Open s ts ns order) where
-  words-of : (k : ℕ) {w : Verdict} → numbered Fine k (length (netIn s ts ns .tables)) ≡ w → wordsBy w (wordsOfNet (netIn s ts ns) k) ≡ wordsOfFile s k
+  words-of : (k : ℕ) {w : Verdict} → numbered k (length (netIn s ts ns .tables)) ≡ w → wordsBy w (wordsOfNet (netIn s ts ns) k) ≡ wordsOfFile s k
   unfolding wordsOfFile
   words-of k e =
-      sym (ap₂ (λ (N : Net) (w : Verdict). wordsBy (numbered w k (length (N .tables))) (wordsOfNet N k)) (the-net o) (passed o) ∙ ap (λ (w : Verdict). wordsBy w (wordsOfNet (netIn s ts ns) k)) e)
+      sym (ap₂ (λ (N : Net) (w : Verdict). wordsBy (onward w (numbered k (length (N .tables)))) (wordsOfNet N k)) (the-net o) (passed o) ∙ ap (λ (w : Verdict). wordsBy w (wordsOfNet (netIn s ts ns) k)) e)
 
   pub words-missing : (k : ℕ) → length ts ≤ k → Placed s k (Refuse 6 65535)
   words-missing k h = let z = tables-in s ts ns in record { standing = tt; served = words-of k (no-number k _ (omega arith)) }

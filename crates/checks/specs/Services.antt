@@ -7,28 +7,24 @@ use Rattle.lists.specs.Lists.{concatMap}
 use Rattle.lists.specs.Paths.{pick}
 use Rattle.words.specs.Words.{bytes}
 use Rattle.netlist.specs.Net.{noTable, spelled, Net, size, nodeAt}
+use Rattle.netlist.specs.Verdict.{onward}
 use Rattle.netlist.specs.NodeField.{noNode}
-use Rattle.netlist.specs.File.{Decoded, bad, good, decode, fileVerdict, answer, given, noNet}
+use Rattle.netlist.specs.File.{decode, decodedNet, fileVerdict, answer, given}
 use Rattle.netlist.specs.declared.Answer.{Answer}
 use Rattle.netlist.specs.declared.Verdict.{Verdict}
 use Rattle.netlist.specs.declared.Verdict.the-variants.{Fine, Refuses}
 use Rattle.checks.specs.declared.NodeAnswer.{NodeAnswer}
 
-abbrev pub netOf : Decoded → Net
-netOf (bad k p) = noNet
-netOf (good N) = N
-
--- of a file that passes: 6 ("no such node or table") with place 65,535 where the number asked for is not below how many there are
-abbrev pub numbered : Verdict → ℕ → ℕ → Verdict
-numbered Fine v n = pick (ltb v n) Fine (Refuses 6 65535)
-numbered (Refuses k p) v n = Refuses k p
+-- 6 ("no such node or table") with place 65,535 where the number asked for is not below how many there are
+abbrev pub numbered : ℕ → ℕ → Verdict
+numbered v n = pick (ltb v n) Fine (Refuses 6 65535)
 
 -- node v, accepted with the number of nodes
 abbrev pub nodeBy : Verdict → Net → ℕ → NodeAnswer
 nodeBy w N v = record { answer = answer w (size N); node = given w (nodeAt N v) noNode }
 
 unfoldable pub nodeOfFile : List ℕ → ℕ → NodeAnswer
-nodeOfFile s v = let N = netOf (decode s) in nodeBy (numbered (fileVerdict s) v (size N)) N v
+nodeOfFile s v = let N = decodedNet (decode s) in nodeBy (onward (fileVerdict s) (numbered v (size N))) N v
 
 -- the words of table k as bytes, accepted with the number of bytes
 abbrev pub wordsOfNet : Net → ℕ → List ℕ
@@ -42,4 +38,4 @@ abbrev pub wordsBy : Verdict → List ℕ → WordsAnswer
 wordsBy w words = record { answer = answer w (length words); words = given w words [] }
 
 unfoldable pub wordsOfFile : List ℕ → ℕ → WordsAnswer
-wordsOfFile s k = let N = netOf (decode s) in wordsBy (numbered (fileVerdict s) k (length (N .tables))) (wordsOfNet N k)
+wordsOfFile s k = let N = decodedNet (decode s) in wordsBy (onward (fileVerdict s) (numbered k (length (N .tables)))) (wordsOfNet N k)
