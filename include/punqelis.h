@@ -2,6 +2,7 @@
  * Punqelis: checks, runs and rewrites netlist files.
  *
  * A netlist file describes a clocked circuit of ports, registers, ROMs and gates.
+ * Link with libpunqelis.a, which `rt staticlib punqelis` writes to target/staticlib/.
  *
  * Every function answers one number:
  *   below 65,536   accepted, and the number is a length in bytes (see each function);
