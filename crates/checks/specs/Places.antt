@@ -13,6 +13,7 @@ use Rattle.checks.specs.declared.TablePlace.{TablePlace}
 use Rattle.checks.specs.declared.TablePlace.the-variants.{At, Refuse}
 use Rattle.checks.specs.Services.{WordsAnswer, wordsOfFile}
 
+-- what a place says of table and file, whether a table stands there, and its words as bytes
 abbrev pub placeVerdict : TablePlace → Verdict
 placeVerdict (At at) = Fine
 placeVerdict (Refuse k p) = Refuses k p

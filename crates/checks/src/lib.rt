@@ -246,7 +246,8 @@ fn answer_with(place: TablePlace, words: &[u8]) -> Answer
 
 // The words of table k. (A function over a struct that holds a reference is proved by hand: the work is done in the three above.)
 pub fn table_words<'a>(file: &'a [u8], k: usize) -> TableAnswer<'a>
-    ensures { λ r. ⌜ (r .answer ≡ wordsOfFile (now (file .entry)) k .answer) × (now (r .words) ≡ wordsOfFile (now (file .entry)) k .words) ⌝ }
+    ensures { λ r. ⌜ (r .answer ≡ wordsOfFile (now (file .entry)) k .answer)
+        × (now (r .words) ≡ wordsOfFile (now (file .entry)) k .words) ⌝ }
 {
     let place = table_place(file, k);
     let words = words_at(file, place);

@@ -115,13 +115,13 @@ module _ {M : Type 1} (𝓤 : URA M) (H : Heap 𝓤) (A : Atoms 𝓤) (W : Given
   place-said p = exE 𝓤 _ (λ ws. snd∗ 𝓤 (sem 𝓤 H A (lasts place.ended (κ, tt) (s, (k, tt)) ws)) (fact 𝓤 (Placed (now s) k p)))
 
   -- the place is p with the machine value u
-  module _ (p : TablePlace) (u : Val) (is : Is P.the-row p (u ∷ [])) where
+  module _ (p : TablePlace) (u : Val) where
     -- the call of `words_at`
     abbrev to-part : Part 𝓤 H A mem run .Ghost
     to-part = (((κ, tt), (q, tt), tt, (s, (p, tt)), (v ∷ [], (u ∷ [], tt))), tt)
 
-    goes-part : Standing (now s) p → ent 𝓤 (⋆ 𝓤 H A ((‵ (flft κ q) ⊛ ‵ ftrue) ∷ ‵ (Own s v) ∷ [])) (sep 𝓤 (Part 𝓤 H A mem run .pre to-part) (sem 𝓤 H A (Own s v)))
-    goes-part stands =
+    goes-part : Is P.the-row p (u ∷ []) → Standing (now s) p → ent 𝓤 (⋆ 𝓤 H A ((‵ (flft κ q) ⊛ ‵ ftrue) ∷ ‵ (Own s v) ∷ [])) (sep 𝓤 (Part 𝓤 H A mem run .pre to-part) (sem 𝓤 H A (Own s v)))
+    goes-part is stands =
         qed W ((‵ (flft κ q) ⊛ ‵ ftrue) ∷ ‵ (Own s v) ∷ []) ∵
         move ! (1 ∷ []) $ use1 W (‵ (Own s v) ⊛ ‵ (Own s v)) (shr-slice-copy 𝓤 H A W (named 0) κ u8 .twice s (v ∷ [])) $ split ! $ move ! (2 ∷ 0 ∷ []) $
         use2 W (raw (Part 𝓤 H A mem run .pre to-part)) (
@@ -135,8 +135,8 @@ module _ {M : Type 1} (𝓤 : URA M) (H : Heap 𝓤) (A : Atoms 𝓤) (W : Given
     abbrev to-with : RefT (List ℕ) → Val → With 𝓤 H A mem run .Ghost
     to-with x w = (((κ, tt), (q, tt), tt, (p, (x, tt)), (u ∷ [], (w ∷ [], tt))), tt)
 
-    goes-with : (x : RefT (List ℕ)) (w : Val) → ent 𝓤 (⋆ 𝓤 H A (‵ (Own x w) ∷ (‵ (flft κ q) ⊛ ‵ ftrue) ∷ [])) (sep 𝓤 (With 𝓤 H A mem run .pre (to-with x w)) (sem 𝓤 H A (Own x w)))
-    goes-with x w =
+    goes-with : Is P.the-row p (u ∷ []) → (x : RefT (List ℕ)) (w : Val) → ent 𝓤 (⋆ 𝓤 H A (‵ (Own x w) ∷ (‵ (flft κ q) ⊛ ‵ ftrue) ∷ [])) (sep 𝓤 (With 𝓤 H A mem run .pre (to-with x w)) (sem 𝓤 H A (Own x w)))
+    goes-with is x w =
         qed W (‵ (Own x w) ∷ (‵ (flft κ q) ⊛ ‵ ftrue) ∷ []) ∵
         use1 W (‵ (Own x w) ⊛ ‵ (Own x w)) (shr-slice-copy 𝓤 H A W (named 0) κ u8 .twice x (w ∷ [])) $ split ! $ move ! (2 ∷ 0 ∷ []) $
         use2 W (raw (With 𝓤 H A mem run .pre (to-with x w))) (
@@ -181,17 +181,17 @@ module _ {M : Type 1} (𝓤 : URA M) (H : Heap 𝓤) (A : Atoms 𝓤) (W : Given
         facts ! P.the-row (Is P.the-row) (shows 𝓤 H A P.the-row) p (u ∷ []) (λ is-p. land ! (from ! (stop !)) (init ! 6 refl (EL.lawful P.the-type P′.the-laws 𝓤 H A W tt .typed p _ is-p .0)) $
         -- [the token; what s owns; room for _5; …; room for _4; …; _3; …; _2; …; _1; …; room for _0; …]
         -- `words_at`, to _4
-        use2 W (raw (Part 𝓤 H A mem run .pre (to-part p u is-p)) ⊛ ‵ (Own s v)) (goes-part p u is-p (there .standing)) $ split ! $
-        calls-at ! fm (Part 𝓤 H A mem run) known-part (to-part p u is-p) (and-then ! (load ! (from ! (stop !)) (look ! 10 refl)) (and-then ! (load ! (from ! (stop !)) (look ! 6 refl)) (no-more !))) (λ w.
+        use2 W (raw (Part 𝓤 H A mem run .pre (to-part p u)) ⊛ ‵ (Own s v)) (goes-part p u is-p (there .standing)) $ split ! $
+        calls-at ! fm (Part 𝓤 H A mem run) known-part (to-part p u) (and-then ! (load ! (from ! (stop !)) (look ! 10 refl)) (and-then ! (load ! (from ! (stop !)) (look ! 6 refl)) (no-more !))) (λ w.
         use1 W (later (some (λ (x : RefT (List ℕ)). ((‵ (flft κ q) ⊛ ‵ ftrue) ⊛ ‵ (Own x w)) ⊛ raw (ensured 𝓤 H A part.ended (part.clauses 𝓤 H A mem run) (κ, tt) (s, (p, tt)) tt x)))) (id⊢ 𝓤 _) $ await ! tt $ pick ! (λ x.
-        split ! $ move ! (1 ∷ []) $ use1 W (raw (fact 𝓤 (now x ≡ wordsAt (now s) p))) (part-said p u is-p x) $ heard ! (now x ≡ wordsAt (now s) p) (λ e. split ! $ move ! (1 ∷ []) $
+        split ! $ move ! (1 ∷ []) $ use1 W (raw (fact 𝓤 (now x ≡ wordsAt (now s) p))) (part-said p u x) $ heard ! (now x ≡ wordsAt (now s) p) (λ e. split ! $ move ! (1 ∷ []) $
         peeks ! (ShrSlice (named 0) κ u8) (Is (ShrSlice (named 0) κ u8)) (shows 𝓤 H A (ShrSlice (named 0) κ u8)) x (w ∷ []) (λ is-x. land ! (from ! (stop !)) (init ! 5 refl (shr-slice-lawful 𝓤 H A W erased κ u8 .typed x (w ∷ []) is-x .0)) $
         -- [what x owns; the token; what s owns; room for _5; …; _4; …; _3; …]
         -- `answer_with`, to _5
-        use2 W (raw (With 𝓤 H A mem run .pre (to-with p u is-p x w)) ⊛ ‵ (Own x w)) (goes-with p u is-p x w) $ split ! $
-        calls-at ! fm (With 𝓤 H A mem run) known-with (to-with p u is-p x w) (and-then ! (load ! (from ! (stop !)) (look ! 7 refl)) (and-then ! (load ! (from ! (stop !)) (look ! 5 refl)) (no-more !))) (λ t.
+        use2 W (raw (With 𝓤 H A mem run .pre (to-with p u x w)) ⊛ ‵ (Own x w)) (goes-with p u is-p x w) $ split ! $
+        calls-at ! fm (With 𝓤 H A mem run) known-with (to-with p u x w) (and-then ! (load ! (from ! (stop !)) (look ! 7 refl)) (and-then ! (load ! (from ! (stop !)) (look ! 5 refl)) (no-more !))) (λ t.
         use1 W (later (some (λ (a : Answer). ((‵ (flft κ q) ⊛ ‵ ftrue) ⊛ ‵ (R.the-row .own a (t ∷ []))) ⊛ raw (ensured 𝓤 H A with.ended (with.clauses 𝓤 H A mem run) (κ, tt) (p, (x, tt)) tt a)))) (id⊢ 𝓤 _) $ await ! tt $ pick ! (λ a.
-        split ! $ move ! (1 ∷ []) $ use1 W (raw (fact 𝓤 (a ≡ answer (placeVerdict p) (length (now x))))) (with-said p u is-p x a) $ heard ! (a ≡ answer (placeVerdict p) (length (now x))) (λ d. split ! $ move ! (1 ∷ []) $
+        split ! $ move ! (1 ∷ []) $ use1 W (raw (fact 𝓤 (a ≡ answer (placeVerdict p) (length (now x))))) (with-said p u x a) $ heard ! (a ≡ answer (placeVerdict p) (length (now x))) (λ d. split ! $ move ! (1 ∷ []) $
         peeks ! R.the-row (Is R.the-row) (shows 𝓤 H A R.the-row) a (t ∷ []) (λ is-a. land ! (from ! (stop !)) (init ! 4 refl (EL.lawful R.the-type R′.the-laws 𝓤 H A W tt .typed a _ is-a .0)) $
         -- [what a owns; the token; what x owns; what s owns; _5; …; _4; …; _3; …; _2; …; _1; …; room for _0; …]
         assigns ! (agg ! (and-then ! (load ! (from ! (stop !)) (look ! 4 refl)) (and-then ! (load ! (from ! (stop !)) (look ! 6 refl)) (no-more !)))) (from ! (stop !)) (init ! 14 refl (LL.lawful (T.the-type α) (T′.the-laws α) 𝓤 H A W .typed (made x w a t) _ (made-is x w a t is-x is-a) .0)) $
