@@ -1,5 +1,5 @@
 pub mod Open
 pub mod Services
-pub mod Places
+pub mod TablePlaces
 pub mod Opens
 pub mod Serves

@@ -1,20 +1,18 @@
 -- From the index and the verdict of the code to the definitions, over plain values. Assumes nothing.
-use mathlib.Core.Path.{_≡_, refl, sym, ap, ap₂, subst, _∙_}
+use mathlib.Core.Path.{_≡_, sym, ap, ap₂, subst, _∙_}
 use mathlib.Core.List.{List}
-use Prim.Native.Nat.{ℕ, _≤_, _<_}
+use Prim.Native.Nat.{ℕ, _≤_}
 use native.Mathlib.Omega.{arith}
 use lib.ListN.{length, take, length-take}
-use Rattle.netlist.specs.Net.{inClock}
 use Rattle.netlist.specs.Scan.{Scan, refused, found, scan}
 use Rattle.netlist.specs.ScanLaws.{Found, scan-found}
 use Rattle.netlist.specs.Verdict.{readerVerdict}
-use Rattle.netlist.specs.File.{Decoded, bad, good, netIn, decode, decoded, judged, fileVerdict, answer, checkAnswer}
+use Rattle.netlist.specs.File.{good, netIn, decode, decoded, judged, fileVerdict, answer, checkAnswer}
 use Rattle.netlist.specs.declared.Answer.the-variants.{Accepted, Refused}
 use Rattle.netlist.specs.declared.Scanned.{Scanned}
 use Rattle.netlist.specs.declared.Scanned.the-variants.{Refuse, Fields}
 use Rattle.netlist.specs.declared.Verdict.{Verdict}
-use Rattle.netlist.specs.declared.Verdict.the-variants.{Fine, Refuses}
-use Rattle.order.specs.Order.{Complete}
+use Rattle.netlist.specs.declared.Verdict.the-variants.{Refuses}
 use Rattle.reader.specs.Index.{scannedOf, Indexed}
 use Rattle.checks.specs.Open.{Open, Opened, turned-away, taken}
 

@@ -26,7 +26,7 @@ use Rattle.codec.specs.Bytes.{Bytes, bytes-take, bytes-drop}
 use Rattle.codec.specs.TableCame.{table-as-it-came}
 use Rattle.checks.specs.Open.{Open, Opened}
 use Rattle.checks.specs.Services.{numbered, nodeBy, nodeOfFile, wordsOfNet, wordsBy, wordsOfFile}
-use Rattle.checks.specs.Places.{Placed}
+use Rattle.checks.specs.TablePlaces.{Placed}
 use Rattle.checks.specs.declared.TablePlace.the-variants.{At, Refuse}
 use Rattle.checks.specs.Opens.{judged-by, decoded-as, opened-fields}
 

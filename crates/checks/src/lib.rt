@@ -26,7 +26,7 @@ ghost use Rattle.columns.specs.Columns.{Columns, Widths};
 ghost use Rattle.order.specs.Order.{Complete};
 ghost use Rattle.checks.specs.Open.{fromNine, Opened, Columned};
 ghost use Rattle.checks.specs.Services.{nodeOfFile, wordsOfFile};
-ghost use Rattle.checks.specs.Places.{Standing, wordsAt, placeVerdict, Placed};
+ghost use Rattle.checks.specs.TablePlaces.{Standing, wordsAt, placeVerdict, Placed};
 
 // A node, or why there is none. (An enum that holds an array is not covered: the answer stands beside the node.)
 pub struct NodeAnswer {

@@ -4,7 +4,7 @@ use borrow.Author.Needs.{needs}
 use lib.ListN.{length}
 use Rattle.netlist.specs.File.{answer}
 use Rattle.checks.specs.declared.TablePlace.{TablePlace}
-use Rattle.checks.specs.Places.{placeVerdict}
+use Rattle.checks.specs.TablePlaces.{placeVerdict}
 use Rattle.checks.proofs.answer_with.Statement.{statement}
 use Rattle.checks.proofs.answer_with.Tie as tie
 

@@ -46,7 +46,7 @@ use Rattle.netlist.specs.declared.Answer.{Answer}
 use Rattle.netlist.proofs.Answer as R
 use Rattle.netlist.proofs.Answer.Laws as R′
 use Rattle.checks.specs.Services.{wordsOfFile}
-use Rattle.checks.specs.Places.{placeVerdict, Standing, wordsAt, Placed, served-there}
+use Rattle.checks.specs.TablePlaces.{placeVerdict, Standing, wordsAt, Placed, served-there}
 use Rattle.checks.specs.declared.TableAnswer.{TableAnswer}
 use Rattle.checks.specs.declared.TablePlace.{TablePlace}
 use Rattle.checks.proofs.TableAnswer as T

@@ -1,7 +1,7 @@
 -- By the cases of the place.
 use mathlib.Core.Path.{sym, ap, subst, _∙_}
 use borrow.Author.Needs.{needs}
-use Rattle.checks.specs.Places.{Standing, wordsAt}
+use Rattle.checks.specs.TablePlaces.{Standing, wordsAt}
 use Rattle.checks.proofs.words_at.Statement.{statement}
 use Rattle.checks.proofs.words_at.Tie as tie
 
