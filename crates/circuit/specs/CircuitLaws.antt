@@ -1,0 +1,160 @@
+-- What the words of a circuit tell of its netlist. Assumes nothing.
+use mathlib.Core.Path.{_≡_, refl, sym, ap, ap₂, subst, _∙_}
+use mathlib.Core.List.{List}
+use Prim.Native.Nat.{ℕ, zero, suc, _+_, _*_, _^_, _<_}
+use native.Mathlib.Omega.{arith}
+use lib.ListN.{length, getD, drop, length-map}
+use lib.Seq.{getD-take, getD-drop}
+use lib.Dec.{eqb}
+use Rattle.lists.specs.Lists.{one}
+use Rattle.lists.specs.BelowLaws.{length-listed, getD-listed, getD-map-lt}
+use Rattle.words.specs.Words.{word}
+use Rattle.netlist.specs.declared.Element.{Element}
+use Rattle.netlist.specs.declared.Node.{Node}
+use Rattle.netlist.specs.Field.{lengthAt, content}
+use Rattle.netlist.specs.TableField.{wordAt, tableRead}
+use Rattle.netlist.specs.TableLaws.{TableFacts, table-facts, content-length}
+use Rattle.netlist.specs.ScanLaws.{TableAt}
+use Rattle.netlist.specs.File.{tableIn}
+use Rattle.netlist.specs.Net.{Table, nowhere, noTable, spelled, size, nodeAt, elementAt, widthAt, source, operands, isInput, isRegister, isAsync, isClocked}
+use Rattle.circuit.specs.Code.{codeOf, elementBy, numberOr, tableOr, code-by, number-by, table-by, code-input, code-register, code-async, code-clocked}
+use Rattle.circuit.specs.Circuit.{field, atCode, atWidth, atCount, atNumber, atTable, atTurn, rowNode, rowAt, nodesOf, tablesOf, orderOf, netOf, Fits, Circuit}
+
+-- ---- node v
+
+pub size-nodes : (l : List ℕ) → length (nodesOf l) ≡ getD l 0 0
+unfolding nodesOf
+size-nodes l = length-listed (λ v. rowNode (rowAt l v)) (getD l 0 0)
+
+pub size-tables : (l : List ℕ) → length (tablesOf l) ≡ getD l 1 0
+unfolding tablesOf
+size-tables l = length-listed (λ t. getD l (2 + t) 0) (getD l 1 0)
+
+pub table-place : (l : List ℕ) (t : ℕ) → t < length (tablesOf l) → getD (tablesOf l) t 0 ≡ getD l (2 + t) 0
+unfolding tablesOf
+table-place l t h = getD-listed (λ t. getD l (2 + t) 0) (getD l 1 0) t 0 (omega (arith, size-tables l))
+
+pub size-order : (l : List ℕ) → length (orderOf l) ≡ getD l 0 0
+unfolding orderOf
+size-order l = length-listed (λ i. field l i atTurn) (getD l 0 0)
+
+pub order-at : (l : List ℕ) (i : ℕ) → i < getD l 0 0 → getD (orderOf l) i 0 ≡ field l i atTurn
+unfolding orderOf
+order-at l i h = getD-listed (λ k. field l k atTurn) (getD l 0 0) i 0 h
+
+pub node-from : (l : List ℕ) (v : ℕ) → v < length (nodesOf l) → getD (nodesOf l) v nowhere ≡ rowNode (rowAt l v)
+unfolding nodesOf
+node-from l v h = getD-listed (λ v. rowNode (rowAt l v)) (getD l 0 0) v nowhere (omega (arith, size-nodes l))
+
+module _ (s l : List ℕ) where
+  pub size-is : size (netOf s l) ≡ length (nodesOf l)
+  unfolding netOf
+  size-is = refl
+
+  pub size-of : size (netOf s l) ≡ getD l 0 0
+  unfolding netOf
+  size-of = size-nodes l
+
+  pub node-of : (v : ℕ) → v < size (netOf s l) → nodeAt (netOf s l) v ≡ rowNode (rowAt l v)
+  unfolding netOf nodeAt
+  node-of v h = node-from l v h
+
+  pub tables-of : length (netOf s l .tables) ≡ length (tablesOf l)
+  unfolding netOf
+  tables-of = length-map (tablesOf l) (tableIn s)
+
+  pub table-of : (t : ℕ) → t < length (tablesOf l) → getD (netOf s l .tables) t noTable ≡ tableIn s (getD l (2 + t) 0)
+  unfolding netOf
+  table-of t h = getD-map-lt (tableIn s) (tablesOf l) t 0 noTable h ∙ ap (tableIn s) (table-place l t h)
+
+  module _ (t : Circuit s l) (v : ℕ) (h : v < size (netOf s l)) where
+    pub row-of : Fits (rowAt l v)
+    row-of = t .formed .row v (omega (arith, size-is))
+
+    pub element-at : elementAt (netOf s l) v ≡ elementBy (field l v atCode) (field l v atNumber) (field l v atTable)
+    unfolding elementAt rowNode
+    element-at = ap (λ (x : Node). x .element) (node-of v h)
+
+    pub code-at : field l v atCode ≡ codeOf (elementAt (netOf s l) v)
+    code-at = sym (ap codeOf element-at ∙ code-by (field l v atCode) (field l v atNumber) (field l v atTable) (row-of .coded))
+
+    pub number-at : field l v atNumber ≡ numberOr (field l v atNumber) (elementAt (netOf s l) v)
+    number-at = number-by (field l v atCode) (field l v atNumber) (field l v atTable) (row-of .coded) ∙ ap (numberOr (field l v atNumber)) (sym element-at)
+
+    pub table-at : field l v atTable ≡ tableOr (field l v atTable) (elementAt (netOf s l) v)
+    table-at = table-by (field l v atCode) (field l v atNumber) (field l v atTable) (row-of .coded) ∙ ap (tableOr (field l v atTable)) (sym element-at)
+
+    pub width-at : field l v atWidth ≡ widthAt (netOf s l) v
+    unfolding widthAt rowNode
+    width-at = sym (ap (λ (x : Node). x .width) (node-of v h))
+
+    pub count-at : field l v atCount ≡ operands (elementAt (netOf s l) v)
+    count-at = row-of .count ∙ ap operands (sym element-at)
+
+    pub source-at : (p : ℕ) → p < 3 → field l v (3 + p) ≡ source (netOf s l) v p
+    unfolding source rowNode
+    source-at zero q = sym (ap (λ (x : Node). getD (x .sources) 0 0) (node-of v h))
+    source-at (suc zero) q = sym (ap (λ (x : Node). getD (x .sources) 1 0) (node-of v h))
+    source-at (suc (suc zero)) q = sym (ap (λ (x : Node). getD (x .sources) 2 0) (node-of v h))
+    source-at (suc (suc (suc p))) q = absurd (omega arith)
+
+-- ---- what a code tells of its element
+
+module _ (e : Element) {c : ℕ} (q : c ≡ codeOf e) where
+  pub input-is : {b : ℕ} → b ≡ one (eqb c 0) → b ≡ one (isInput e)
+  input-is r = r ∙ ap (λ (k : ℕ). one (eqb k 0)) q ∙ ap one (code-input e)
+
+  pub register-is : {b : ℕ} → b ≡ one (eqb c 2) → b ≡ one (isRegister e)
+  register-is r = r ∙ ap (λ (k : ℕ). one (eqb k 2)) q ∙ ap one (code-register e)
+
+  pub async-is : {b : ℕ} → b ≡ one (eqb c 3) → b ≡ one (isAsync e)
+  async-is r = r ∙ ap (λ (k : ℕ). one (eqb k 3)) q ∙ ap one (code-async e)
+
+  pub clocked-is : {b : ℕ} → b ≡ one (eqb c 4) → b ≡ one (isClocked e)
+  clocked-is r = r ∙ ap (λ (k : ℕ). one (eqb k 4)) q ∙ ap one (code-clocked e)
+
+-- ---- a word of a table
+
+-- the word at a place of a field's content
+content-word : (s : List ℕ) (at i : ℕ) → i + 1 < lengthAt s at → word (content s at) i ≡ word s (at + 3 + i)
+content-word s at i h =
+    let next : at + 3 + (i + 1) ≡ at + 3 + i + 1 = omega arith in
+    ap₂ (λ (x y : ℕ). x * 256 + y)
+    (getD-take (lengthAt s at) (drop (at + 3) s) i 0 (omega arith) ∙ getD-drop (at + 3) s i 0)
+    (getD-take (lengthAt s at) (drop (at + 3) s) (i + 1) 0 h ∙ getD-drop (at + 3) s (i + 1) 0 ∙ ap (λ (k : ℕ). getD s k 0) next)
+
+pub record TableWord (s l : List ℕ) (k a : ℕ) : Type 0 where
+  pub few : k < 16
+  pub inside : getD l (2 + k) 0 + 5 + 2 * a + 1 < length s
+  pub is : word s (getD l (2 + k) 0 + 5 + 2 * a) ≡ getD (spelled (getD (netOf s l .tables) k noTable)) a 0
+
+module _ (s l : List ℕ) (t : Circuit s l) (k : ℕ) (h : k < length (netOf s l .tables)) (a : ℕ) (b : a < 2 ^ getD (netOf s l .tables) k noTable .bits) where
+  abbrev place : ℕ
+  place = getD l (2 + k) 0
+
+  numbered-table : k < length (tablesOf l)
+  numbered-table = omega (arith, tables-of s l)
+
+  stands : TableAt s place
+  stands = subst (TableAt s) (table-place l k numbered-table) (t .tables k numbered-table)
+
+  facts : TableFacts (content s place)
+  facts = table-facts (content s place) (stands .good)
+
+  long : lengthAt s place ≡ 2 + 2 * 2 ^ getD (content s place) 0 0
+  long = sym (content-length s place (stands .inside)) ∙ facts .full
+
+  low : a < 2 ^ getD (content s place) 0 0
+  unfolding tableIn tableRead
+  low = subst (λ (x : Table). a < 2 ^ x .bits) (table-of s l k numbered-table) b
+
+  pub table-word-law : TableWord s l k a
+  unfolding tableIn tableRead spelled
+  table-word-law = record {
+    few = omega (arith, numbered-table, t .formed .few-tables);
+    inside = omega (arith, stands .inside, long, low);
+    is =
+        (let e : place + 5 + 2 * a ≡ place + 3 + (2 + 2 * a) = omega arith in
+        ap (word s) e ∙ sym (content-word s place (2 + 2 * a) (omega (arith, long, low))) ∙ sym (getD-listed (wordAt (content s place)) (2 ^ getD (content s place) 0 0) a 0 low)
+        ∙ sym (ap (λ (x : Table). getD (spelled x) a 0) (table-of s l k numbered-table)));
+  }

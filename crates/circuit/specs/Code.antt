@@ -1,0 +1,232 @@
+-- An element by one number: its kind in the file, where each operation of a gate has a number of its own. The numbers 5 to 7 are kinds that have none. Assumes nothing.
+use mathlib.Core.Path.{_≡_, refl, sym}
+use mathlib.Core.Logic.{_⊎_, inl, inr, ⊎-elim}
+use mathlib.Core.Bool.{Bool, true, cond}
+use mathlib.Core.List.{[], _∷_}
+use Prim.Native.Nat.{ℕ, _+_, _-_, _≤_, _<_}
+use native.Mathlib.Omega.{arith}
+use lib.Dec.{eqb, eqb→eq, lit≤, lit<}
+use borrow.Author.Tests.{ne-eqb}
+use Rattle.lists.specs.Paths.{pick, arms-eq}
+use Rattle.lists.specs.ListsLaws.{all-getD}
+use Rattle.lists.specs.TableRule.{at}
+use Rattle.words.specs.Words.{operandCounts}
+use Rattle.words.specs.declared.Op.{Op}
+use Rattle.words.specs.declared.Op.the-variants.{Constant, Not, And, Or, Xor, Add, Subtract, Equal, Less, Choose, Part, Join}
+use Rattle.netlist.specs.declared.Element.{Element}
+use Rattle.netlist.specs.declared.Element.the-variants.{Input, Output, Register, Async, Clocked, Gate}
+use Rattle.netlist.specs.NodeField.{plainOp, opNumber}
+use Rattle.netlist.specs.Net.{rom, operands, isInput, isOutput, isRegister, isAsync, isClocked}
+
+abbrev pub codeOf : Element → ℕ
+codeOf Input = 0
+codeOf Output = 1
+codeOf (Register r) = 2
+codeOf (Async m) = 3
+codeOf (Clocked m r) = 4
+codeOf (Gate o) = 8 + opNumber o
+
+-- the numbers that are codes
+abbrev pub Coded : ℕ → Type 0
+Coded c = (c < 5) ⊎ ((8 ≤ c) × (c < 20))
+
+few-ops : (o : Op) → opNumber o < 12
+few-ops (Constant v) = lit< tt
+few-ops Not = lit< tt
+few-ops And = lit< tt
+few-ops Or = lit< tt
+few-ops Xor = lit< tt
+few-ops Add = lit< tt
+few-ops Subtract = lit< tt
+few-ops Equal = lit< tt
+few-ops Less = lit< tt
+few-ops Choose = lit< tt
+few-ops (Part b) = lit< tt
+few-ops Join = lit< tt
+
+pub coded : (e : Element) → Coded (codeOf e)
+coded Input = inl (lit< tt)
+coded Output = inl (lit< tt)
+coded (Register r) = inl (lit< tt)
+coded (Async m) = inl (lit< tt)
+coded (Clocked m r) = inl (lit< tt)
+coded (Gate o) = inr (omega arith, omega (arith, few-ops o))
+
+pub code-below : {c : ℕ} → Coded c → c < 20
+code-below h = ⊎-elim (λ l. omega arith) (λ l. l .1) h
+
+-- ---- an element by its code, its number (of a constant, a part, a register or a clocked ROM) and its table
+
+unfoldable pub opBy : ℕ → ℕ → Op
+opBy k x = pick (eqb k 0) (Constant x) (pick (eqb k 10) (Part x) (plainOp k))
+
+unfoldable pub elementBy : ℕ → ℕ → ℕ → Element
+elementBy c x t =
+    pick (eqb c 0) Input
+    (pick (eqb c 1) Output
+    (pick (eqb c 2) (Register x)
+    (pick (eqb c 3) (Async (rom t))
+    (pick (eqb c 4) (Clocked (rom t) x)
+    (Gate (opBy (c - 8) x))))))
+
+-- the number that an element holds, and its table; x where there is none
+abbrev pub opNumberOr : ℕ → Op → ℕ
+opNumberOr x (Constant v) = v
+opNumberOr x Not = x
+opNumberOr x And = x
+opNumberOr x Or = x
+opNumberOr x Xor = x
+opNumberOr x Add = x
+opNumberOr x Subtract = x
+opNumberOr x Equal = x
+opNumberOr x Less = x
+opNumberOr x Choose = x
+opNumberOr x (Part b) = b
+opNumberOr x Join = x
+
+abbrev pub numberOr : ℕ → Element → ℕ
+numberOr x Input = x
+numberOr x Output = x
+numberOr x (Register r) = r
+numberOr x (Async m) = x
+numberOr x (Clocked m r) = r
+numberOr x (Gate o) = opNumberOr x o
+
+abbrev pub tableOr : ℕ → Element → ℕ
+tableOr x Input = x
+tableOr x Output = x
+tableOr x (Register r) = x
+tableOr x (Async m) = m .table
+tableOr x (Clocked m r) = m .table
+tableOr x (Gate o) = x
+
+-- ---- it has that code, that number and that table
+
+numbered : ℕ → ℕ → Bool
+numbered k x = cond (eqb k 0) true (cond (eqb k 10) true (eqb (opNumber (plainOp k)) k))
+
+plain-number : (k : ℕ) → k < 12 → (k ≡ 0 → ⊥) → (k ≡ 10 → ⊥) → opNumber (plainOp k) ≡ k
+unfolding numbered
+plain-number k h a b = eqb→eq _ _ (simp (ne-eqb _ _ a, ne-eqb _ _ b) at (at numbered operandCounts tt k h))
+
+op-code : (k x : ℕ) → k < 12 → opNumber (opBy k x) ≡ k
+unfolding opBy
+op-code k x h = arms-eq P _ _ k 0 (λ e. sym e) (λ a. arms-eq P _ _ k 10 (λ e. sym e) (λ b. plain-number k h a b))
+  where
+    P : Op → Type 0
+    P o = opNumber o ≡ k
+
+-- by cases of a code
+by-code : (P : Element → Type 0) (c x t : ℕ) → Coded c
+    → (c ≡ 0 → P Input) → (c ≡ 1 → P Output) → (c ≡ 2 → P (Register x)) → (c ≡ 3 → P (Async (rom t))) → (c ≡ 4 → P (Clocked (rom t) x))
+    → (8 ≤ c → c - 8 < 12 → P (Gate (opBy (c - 8) x))) → P (elementBy c x t)
+unfolding elementBy
+by-code P c x t h p₀ p₁ p₂ p₃ p₄ p₈ =
+    arms-eq P _ _ c 0 p₀ (λ a. arms-eq P _ _ c 1 p₁ (λ b. arms-eq P _ _ c 2 p₂ (λ d. arms-eq P _ _ c 3 p₃ (λ f. arms-eq P _ _ c 4 p₄ (λ g.
+    ⊎-elim (λ l. absurd (omega arith)) (λ (l, m). p₈ l (omega arith)) h)))))
+
+pub code-by : (c x t : ℕ) → Coded c → codeOf (elementBy c x t) ≡ c
+code-by c x t h = by-code (λ e. codeOf e ≡ c) c x t h sym sym sym sym sym (λ l m. omega (arith, op-code (c - 8) x m))
+
+plain-keeps : (k x : ℕ) → k < 12 → x ≡ opNumberOr x (plainOp k)
+plain-keeps k x h = all-getD (λ (o : Op). x ≡ opNumberOr x o) (Not ∷ Not ∷ And ∷ Or ∷ Xor ∷ Add ∷ Subtract ∷ Equal ∷ Less ∷ Choose ∷ Join ∷ Join ∷ []) k Join
+    (refl, (refl, (refl, (refl, (refl, (refl, (refl, (refl, (refl, (refl, (refl, (refl, tt)))))))))))) h
+
+op-number : (k x : ℕ) → k < 12 → x ≡ opNumberOr x (opBy k x)
+unfolding opBy
+op-number k x h = arms-eq P _ _ k 0 (λ e. refl) (λ a. arms-eq P _ _ k 10 (λ e. refl) (λ b. plain-keeps k x h))
+  where
+    P : Op → Type 0
+    P o = x ≡ opNumberOr x o
+
+pub number-by : (c x t : ℕ) → Coded c → x ≡ numberOr x (elementBy c x t)
+number-by c x t h = by-code (λ e. x ≡ numberOr x e) c x t h (λ e. refl) (λ e. refl) (λ e. refl) (λ e. refl) (λ e. refl) (λ l m. op-number (c - 8) x m)
+
+pub table-by : (c x t : ℕ) → Coded c → t ≡ tableOr t (elementBy c x t)
+table-by c x t h = by-code (λ e. t ≡ tableOr t e) c x t h (λ e. refl) (λ e. refl) (λ e. refl) (λ e. refl) (λ e. refl) (λ l m. refl)
+
+-- and the words of an element name it
+pub element-back : (e : Element) → elementBy (codeOf e) (numberOr 0 e) (tableOr 0 e) ≡ e
+unfolding elementBy pick opBy
+element-back Input = refl
+element-back Output = refl
+element-back (Register r) = refl
+element-back (Async m) = refl
+element-back (Clocked m r) = refl
+element-back (Gate (Constant v)) = refl
+element-back (Gate Not) = refl
+element-back (Gate And) = refl
+element-back (Gate Or) = refl
+element-back (Gate Xor) = refl
+element-back (Gate Add) = refl
+element-back (Gate Subtract) = refl
+element-back (Gate Equal) = refl
+element-back (Gate Less) = refl
+element-back (Gate Choose) = refl
+element-back (Gate (Part b)) = refl
+element-back (Gate Join) = refl
+
+-- at most three sources
+few-of : (o : Op) → operands (Gate o) ≤ 3
+few-of (Constant v) = lit≤ tt
+few-of Not = lit≤ tt
+few-of And = lit≤ tt
+few-of Or = lit≤ tt
+few-of Xor = lit≤ tt
+few-of Add = lit≤ tt
+few-of Subtract = lit≤ tt
+few-of Equal = lit≤ tt
+few-of Less = lit≤ tt
+few-of Choose = lit≤ tt
+few-of (Part b) = lit≤ tt
+few-of Join = lit≤ tt
+
+pub few-operands : (e : Element) → operands e ≤ 3
+few-operands Input = lit≤ tt
+few-operands Output = lit≤ tt
+few-operands (Register r) = lit≤ tt
+few-operands (Async m) = lit≤ tt
+few-operands (Clocked m r) = lit≤ tt
+few-operands (Gate o) = few-of o
+
+-- ---- what a code tells of its element
+
+pub code-input : (e : Element) → eqb (codeOf e) 0 ≡ isInput e
+code-input Input = refl
+code-input Output = refl
+code-input (Register r) = refl
+code-input (Async m) = refl
+code-input (Clocked m r) = refl
+code-input (Gate o) = ne-eqb (8 + opNumber o) 0 (λ q. omega arith)
+
+pub code-output : (e : Element) → eqb (codeOf e) 1 ≡ isOutput e
+code-output Input = refl
+code-output Output = refl
+code-output (Register r) = refl
+code-output (Async m) = refl
+code-output (Clocked m r) = refl
+code-output (Gate o) = ne-eqb (8 + opNumber o) 1 (λ q. omega arith)
+
+pub code-register : (e : Element) → eqb (codeOf e) 2 ≡ isRegister e
+code-register Input = refl
+code-register Output = refl
+code-register (Register r) = refl
+code-register (Async m) = refl
+code-register (Clocked m r) = refl
+code-register (Gate o) = ne-eqb (8 + opNumber o) 2 (λ q. omega arith)
+
+pub code-async : (e : Element) → eqb (codeOf e) 3 ≡ isAsync e
+code-async Input = refl
+code-async Output = refl
+code-async (Register r) = refl
+code-async (Async m) = refl
+code-async (Clocked m r) = refl
+code-async (Gate o) = ne-eqb (8 + opNumber o) 3 (λ q. omega arith)
+
+pub code-clocked : (e : Element) → eqb (codeOf e) 4 ≡ isClocked e
+code-clocked Input = refl
+code-clocked Output = refl
+code-clocked (Register r) = refl
+code-clocked (Async m) = refl
+code-clocked (Clocked m r) = refl
+code-clocked (Gate o) = ne-eqb (8 + opNumber o) 4 (λ q. omega arith)

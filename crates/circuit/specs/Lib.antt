@@ -1,0 +1,6 @@
+pub mod Code
+pub mod Circuit
+pub mod CircuitLaws
+pub mod Building
+pub mod Ordering
+pub mod Opened
