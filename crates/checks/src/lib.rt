@@ -1,15 +1,16 @@
 // The reader's layer as run and rewriter see it: checks 1 to 10, a node by its number, a table's words.
-use columns::fill_columns;
+use circuit::node_count;
+use circuit::table_count;
+use circuit::table_place;
 use cycles::lowest_cycle;
 use cycles::rings::lowest_ring;
-use index::node;
-use index::wide;
 use netlist::Answer;
 use netlist::Element;
 use netlist::Node;
 use netlist::Scanned;
 use netlist::Verdict;
-use order::Steps;
+use opening::fill_circuit;
+use opening::rows::node_of;
 use reader::scan_fields;
 use reader::table_part;
 use rules::readers::lowest_unread;
@@ -18,13 +19,13 @@ use rules::widths::lowest_bad_width;
 ghost use mathlib.Core.Path.{_≡_};
 ghost use Prim.Native.Nat.{_≤_};
 ghost use lib.ListN.{length};
-ghost use Rattle.netlist.specs.Net.{inClock, Sourced};
+ghost use Rattle.netlist.specs.Net.{inClock, Net, Sourced};
 ghost use Rattle.netlist.specs.Verdict.{verdict, readerVerdict};
-ghost use Rattle.netlist.specs.ScanLaws.{Found};
-ghost use Rattle.netlist.specs.File.{netIn, answer, checkAnswer};
-ghost use Rattle.columns.specs.Columns.{Columns, Widths};
-ghost use Rattle.order.specs.Order.{Complete};
-ghost use Rattle.checks.specs.Open.{fromNine, Opened, Columned};
+ghost use Rattle.netlist.specs.File.{answer, checkAnswer};
+ghost use Rattle.circuit.specs.Circuit.{circuitWords, orderOf, netOf, Circuit};
+ghost use Rattle.circuit.specs.Opened.{opened};
+ghost use Rattle.circuit.specs.Order.{Complete};
+ghost use Rattle.checks.specs.Open.{fromNine, Opened};
 ghost use Rattle.checks.specs.Services.{nodeOfFile, wordsOfFile};
 ghost use Rattle.checks.specs.TablePlaces.{Standing, wordsAt, placeVerdict, Placed};
 
@@ -46,127 +47,72 @@ enum TablePlace {
     Refuse(u8, u16),
 }
 
-// Checks 9 and 10.
-fn cycles_verdict(
-    file: &[u8],
-    tables: &[u16],
-    nodes: &[u16],
-    order: &mut [u16],
-    codes: &[u8],
-    sources: &[u16],
-) -> Verdict
-    requires { ⌜ Found (now file) (now tables) (now nodes) × Sourced (netIn (now file) (now tables) (now nodes)) × (1024 ≤ length (now order))
-        × Columns (netIn (now file) (now tables) (now nodes)) (now codes) (now sources) (length (now nodes)) ⌝ }
-    ensures { λ r. ⌜ (r ≡ verdict (fromNine (netIn (now (file .entry)) (now (tables .entry)) (now (nodes .entry)))))
-        × (r ≡ Verdict.Fine → Complete inClock (netIn (now (file .entry)) (now (tables .entry)) (now (nodes .entry))) (now (order .exit))) ⌝ }
+// Checks 9 and 10; where neither is said, the circuit has an order.
+fn cycles_verdict(file: &[u8], net: &mut [u16]) -> Verdict
+    ghost { Net }
+    requires { λ N. opened 𝓤 (now file) (now net) N (Sourced N) }
+    ensures { λ N r. ⌜ (netOf (now (file .entry)) (now (net .exit)) ≡ N) × Circuit (now (file .entry)) (now (net .exit))
+        × (r ≡ verdict (fromNine N)) × (r ≡ Verdict.Fine → Complete inClock N (orderOf (now (net .exit)))) ⌝ }
 {
-    let n = nodes.len();
-    let loop_node = lowest_cycle(file, tables, nodes, Steps::InClock, order, codes, sources);
+    let n = node_count(file, net);
+    let loop_node = lowest_cycle(file, net);
     if loop_node < n {
         return Verdict::Refuses(9, loop_node as u16);
     }
-    let ring_node = lowest_ring(file, tables, nodes, codes, sources);
+    let ring_node = lowest_ring(file, net);
     if ring_node < n {
         return Verdict::Refuses(10, ring_node as u16);
     }
     Verdict::Fine
 }
 
-// Checks 6 to 10, over columns filled here.
-fn net_verdict(
-    file: &[u8],
-    tables: &[u16],
-    nodes: &[u16],
-    order: &mut [u16],
-    codes: &mut [u8],
-    widths: &mut [u8],
-    sources: &mut [u16],
-) -> Verdict
-    requires { ⌜ Found (now file) (now tables) (now nodes) × (1024 ≤ length (now order))
-        × (1024 ≤ length (now codes)) × (1024 ≤ length (now widths)) × (3072 ≤ length (now sources)) ⌝ }
-    ensures { λ r. ⌜ (r ≡ readerVerdict (netIn (now (file .entry)) (now (tables .entry)) (now (nodes .entry))))
-        × (r ≡ Verdict.Fine → Complete inClock (netIn (now (file .entry)) (now (tables .entry)) (now (nodes .entry))) (now (order .exit)))
-        × Columns (netIn (now (file .entry)) (now (tables .entry)) (now (nodes .entry))) (now (codes .exit)) (now (sources .exit)) (length (now (nodes .entry)))
-        × Widths (netIn (now (file .entry)) (now (tables .entry)) (now (nodes .entry))) (now (widths .exit)) (length (now (nodes .entry))) ⌝ }
+// Checks 6 to 10.
+fn net_verdict(file: &[u8], net: &mut [u16]) -> Verdict
+    ghost { Net }
+    requires { λ N. ⌜ netOf (now file) (now net) ≡ N ⌝ ∗ ⌜ Circuit (now file) (now net) ⌝ }
+    ensures { λ N r. ⌜ (netOf (now (file .entry)) (now (net .exit)) ≡ N) × Circuit (now (file .entry)) (now (net .exit))
+        × (r ≡ readerVerdict N) × (r ≡ Verdict.Fine → Complete inClock N (orderOf (now (net .exit)))) ⌝ }
 {
-    let n = nodes.len();
-    fill_columns(file, tables, nodes, codes, widths, sources);
-    let source = lowest_bad_source(file, tables, nodes, codes, sources);
+    let n = node_count(file, net);
+    let source = lowest_bad_source(file, net);
     if source < n {
         return Verdict::Refuses(6, source as u16);
     }
-    let width = lowest_bad_width(file, tables, nodes, codes, sources, widths);
+    let width = lowest_bad_width(file, net);
     if width < n {
         return Verdict::Refuses(7, width as u16);
     }
-    let unread = lowest_unread(file, tables, nodes, codes, sources);
+    let unread = lowest_unread(file, net);
     if unread < n {
         return Verdict::Refuses(8, unread as u16);
     }
-    cycles_verdict(file, tables, nodes, order, codes, sources)
+    cycles_verdict(file, net)
 }
 
-// Checks 1 to 10, with the index of the file, an order of its nodes and their columns left in work areas for whoever goes on.
-pub fn open_columns(
-    file: &[u8],
-    tables: &mut [u16],
-    nodes: &mut [u16],
-    order: &mut [u16],
-    codes: &mut [u8],
-    widths: &mut [u8],
-    sources: &mut [u16],
-) -> Scanned
-    requires { ⌜ (16 ≤ length (now tables)) × (1024 ≤ length (now nodes)) × (1024 ≤ length (now order))
-        × (1024 ≤ length (now codes)) × (1024 ≤ length (now widths)) × (3072 ≤ length (now sources)) ⌝ }
-    ensures { λ r. ⌜ Opened (now (file .entry)) (now (tables .exit)) (now (nodes .exit)) (now (order .exit)) r
-        × Columned (now (file .entry)) (now (tables .exit)) (now (nodes .exit)) (now (codes .exit)) (now (sources .exit)) (now (widths .exit)) r ⌝ }
+// Checks 1 to 10, with the file's circuit left in the work area for whoever goes on.
+pub fn open_file(file: &[u8], net: &mut [u16]) -> Verdict
+    requires { ⌜ circuitWords ≤ length (now net) ⌝ }
+    ensures { λ r. ⌜ Opened (now (file .entry)) (now (net .exit)) r ⌝ }
 {
-    match scan_fields(file, tables, nodes) {
-        Scanned::Refuse(number, place) => Scanned::Refuse(number, place),
-        Scanned::Fields(t, n) => match net_verdict(
-            file,
-            &tables[..t],
-            &nodes[..n],
-            order,
-            codes,
-            widths,
-            sources,
-        ) {
-            Verdict::Refuses(number, place) => Scanned::Refuse(number, place),
-            Verdict::Fine => Scanned::Fields(t, n),
-        },
+    let mut tables = [0u16; 16];
+    let mut nodes = [0u16; 1024];
+    match scan_fields(file, &mut tables, &mut nodes) {
+        Scanned::Refuse(number, place) => Verdict::Refuses(number, place),
+        Scanned::Fields(t, n) => {
+            fill_circuit(file, &tables[..t], &nodes[..n], net);
+            net_verdict(file, net)
+        }
     }
-}
-
-// The same for whoever needs no columns.
-pub fn open_file(file: &[u8], tables: &mut [u16], nodes: &mut [u16], order: &mut [u16]) -> Scanned
-    requires { ⌜ (16 ≤ length (now tables)) × (1024 ≤ length (now nodes)) × (1024 ≤ length (now order)) ⌝ }
-    ensures { λ r. ⌜ Opened (now (file .entry)) (now (tables .exit)) (now (nodes .exit)) (now (order .exit)) r ⌝ }
-{
-    let mut codes = [0u8; 1024];
-    let mut widths = [0u8; 1024];
-    let mut sources = [0u16; 3072];
-    open_columns(
-        file,
-        tables,
-        nodes,
-        order,
-        &mut codes,
-        &mut widths,
-        &mut sources,
-    )
 }
 
 // Checks a file: accepted with its length, or the refusal.
 pub fn check_file(file: &[u8]) -> Answer
     ensures { λ r. ⌜ r ≡ checkAnswer (now (file .entry)) ⌝ }
 {
-    let mut tables = [0u16; 16];
-    let mut nodes = [0u16; 1024];
-    let mut order = [0u16; 1024];
-    match open_file(file, &mut tables, &mut nodes, &mut order) {
-        Scanned::Refuse(number, place) => Answer::Refused(number, place),
-        Scanned::Fields(_, _) => Answer::Accepted(file.len()),
+    let mut net = [0u16; 10304];
+    match open_file(file, &mut net) {
+        Verdict::Refuses(number, place) => Answer::Refused(number, place),
+        Verdict::Fine => Answer::Accepted(file.len()),
     }
 }
 
@@ -174,25 +120,23 @@ pub fn check_file(file: &[u8]) -> Answer
 pub fn read_node(file: &[u8], v: usize) -> NodeAnswer
     ensures { λ r. ⌜ r ≡ nodeOfFile (now (file .entry)) v ⌝ }
 {
-    let mut tables = [0u16; 16];
-    let mut nodes = [0u16; 1024];
-    let mut order = [0u16; 1024];
+    let mut net = [0u16; 10304];
     let none = Node {
         element: Element::Input,
         width: 0,
         sources: [0, 0, 0],
     };
-    match open_file(file, &mut tables, &mut nodes, &mut order) {
-        Scanned::Refuse(number, place) => NodeAnswer {
+    match open_file(file, &mut net) {
+        Verdict::Refuses(number, place) => NodeAnswer {
             answer: Answer::Refused(number, place),
             node: none,
         },
-        Scanned::Fields(t, n) => {
+        Verdict::Fine => {
+            let n = node_count(file, &net);
             if v < n {
-                let found = node(file, &tables[..t], &nodes[..n], v);
                 NodeAnswer {
                     answer: Answer::Accepted(n),
-                    node: found,
+                    node: node_of(file, &net, v),
                 }
             } else {
                 NodeAnswer {
@@ -205,17 +149,15 @@ pub fn read_node(file: &[u8], v: usize) -> NodeAnswer
 }
 
 // Where table k of a file stands, or why there is none.
-fn table_place(file: &[u8], k: usize) -> TablePlace
+fn place_of(file: &[u8], k: usize) -> TablePlace
     ensures { λ r. ⌜ Placed (now (file .entry)) k r ⌝ }
 {
-    let mut tables = [0u16; 16];
-    let mut nodes = [0u16; 1024];
-    let mut order = [0u16; 1024];
-    match open_file(file, &mut tables, &mut nodes, &mut order) {
-        Scanned::Refuse(number, place) => TablePlace::Refuse(number, place),
-        Scanned::Fields(t, _) => {
-            if k < t {
-                TablePlace::At(wide(tables[k]))
+    let mut net = [0u16; 10304];
+    match open_file(file, &mut net) {
+        Verdict::Refuses(number, place) => TablePlace::Refuse(number, place),
+        Verdict::Fine => {
+            if k < table_count(file, &net) {
+                TablePlace::At(table_place(file, &net, k))
             } else {
                 TablePlace::Refuse(6, 65535)
             }
@@ -249,7 +191,7 @@ pub fn table_words<'a>(file: &'a [u8], k: usize) -> TableAnswer<'a>
     ensures { λ r. ⌜ (r .answer ≡ wordsOfFile (now (file .entry)) k .answer)
         × (now (r .words) ≡ wordsOfFile (now (file .entry)) k .words) ⌝ }
 {
-    let place = table_place(file, k);
+    let place = place_of(file, k);
     let words = words_at(file, place);
     let answer = answer_with(place, words);
     TableAnswer { answer, words }

@@ -1,9 +1,9 @@
 -- What the words of a circuit tell of its netlist. Assumes nothing.
 use mathlib.Core.Path.{_≡_, refl, sym, ap, ap₂, subst, _∙_}
 use mathlib.Core.List.{List}
-use Prim.Native.Nat.{ℕ, zero, suc, _+_, _*_, _^_, _<_}
+use Prim.Native.Nat.{ℕ, zero, suc, _+_, _*_, _^_, _≤_, _<_}
 use native.Mathlib.Omega.{arith}
-use lib.ListN.{length, getD, drop, length-map}
+use lib.ListN.{length, getD, drop, length-map, List·getD-eq-default}
 use lib.Seq.{getD-take, getD-drop}
 use lib.Dec.{eqb}
 use Rattle.lists.specs.Lists.{one}
@@ -67,6 +67,9 @@ module _ (s l : List ℕ) where
   unfolding netOf
   table-of t h = getD-map-lt (tableIn s) (tablesOf l) t 0 noTable h ∙ ap (tableIn s) (table-place l t h)
 
+  pub table-stands : Circuit s l → (t : ℕ) → t < length (tablesOf l) → TableAt s (getD l (2 + t) 0)
+  table-stands c t h = subst (TableAt s) (table-place l t h) (c .tables t h)
+
   module _ (t : Circuit s l) (v : ℕ) (h : v < size (netOf s l)) where
     pub row-of : Fits (rowAt l v)
     row-of = t .formed .row v (omega (arith, size-is))
@@ -113,6 +116,38 @@ module _ (e : Element) {c : ℕ} (q : c ≡ codeOf e) where
   pub clocked-is : {b : ℕ} → b ≡ one (eqb c 4) → b ≡ one (isClocked e)
   clocked-is r = r ∙ ap (λ (k : ℕ). one (eqb k 4)) q ∙ ap one (code-clocked e)
 
+-- ---- a table's address bits and width
+
+pub record TableHead (s l : List ℕ) (k : ℕ) : Type 0 where
+  pub few : k < 16
+  pub inside : getD l (2 + k) 0 + 5 ≤ length s
+  pub bits : getD s (getD l (2 + k) 0 + 3) 0 ≡ getD (netOf s l .tables) k noTable .bits
+  pub wide : getD s (getD l (2 + k) 0 + 4) 0 ≡ getD (netOf s l .tables) k noTable .wide
+
+module _ (s l : List ℕ) (t : Circuit s l) (k : ℕ) where
+  head-byte : (i : ℕ) → i < lengthAt s (getD l (2 + k) 0) → getD (content s (getD l (2 + k) 0)) i 0 ≡ getD s (getD l (2 + k) 0 + 3 + i) 0
+  head-byte i h = getD-take (lengthAt s (getD l (2 + k) 0)) (drop (getD l (2 + k) 0 + 3) s) i 0 h ∙ getD-drop (getD l (2 + k) 0 + 3) s i 0
+
+  pub table-head : k < length (tablesOf l) → TableHead s l k
+  unfolding tableIn tableRead
+  table-head h =
+      let place : ℕ = getD l (2 + k) 0 in
+      let at : TableAt s place = subst (TableAt s) (table-place l k h) (t .tables k h) in
+      let long : 2 ≤ lengthAt s place = omega (arith, content-length s place (at .inside), table-facts (content s place) (at .good) .full) in
+      let same : getD (netOf s l .tables) k noTable ≡ tableIn s place = table-of s l k h in
+      let z : place + 3 + 0 ≡ place + 3 = omega arith in
+      let u : place + 3 + 1 ≡ place + 4 = omega arith in
+      record {
+        few = omega (arith, t .formed .few-tables);
+        inside = omega (arith, at .inside);
+        bits = sym (ap (λ (x : Table). x .bits) same ∙ head-byte 0 (omega arith) ∙ ap (λ (j : ℕ). getD s j 0) z);
+        wide = sym (ap (λ (x : Table). x .wide) same ∙ head-byte 1 (omega arith) ∙ ap (λ (j : ℕ). getD s j 0) u);
+      }
+
+  -- past the last there is none
+  pub no-table : length (tablesOf l) ≤ k → getD (netOf s l .tables) k noTable ≡ noTable
+  no-table h = List·getD-eq-default (netOf s l .tables) noTable (omega (arith, tables-of s l))
+
 -- ---- a word of a table
 
 -- the word at a place of a field's content
@@ -136,7 +171,7 @@ module _ (s l : List ℕ) (t : Circuit s l) (k : ℕ) (h : k < length (netOf s l
   numbered-table = omega (arith, tables-of s l)
 
   stands : TableAt s place
-  stands = subst (TableAt s) (table-place l k numbered-table) (t .tables k numbered-table)
+  stands = table-stands s l t k numbered-table
 
   facts : TableFacts (content s place)
   facts = table-facts (content s place) (stands .good)

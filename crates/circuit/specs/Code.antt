@@ -145,26 +145,29 @@ number-by c x t h = by-code (λ e. x ≡ numberOr x e) c x t h (λ e. refl) (λ 
 pub table-by : (c x t : ℕ) → Coded c → t ≡ tableOr t (elementBy c x t)
 table-by c x t h = by-code (λ e. t ≡ tableOr t e) c x t h (λ e. refl) (λ e. refl) (λ e. refl) (λ e. refl) (λ e. refl) (λ l m. refl)
 
--- and the words of an element name it
-pub element-back : (e : Element) → elementBy (codeOf e) (numberOr 0 e) (tableOr 0 e) ≡ e
+-- and the words of an element name it, whatever stands where it has none
+pub element-named : (x t : ℕ) (e : Element) → elementBy (codeOf e) (numberOr x e) (tableOr t e) ≡ e
 unfolding elementBy pick opBy
-element-back Input = refl
-element-back Output = refl
-element-back (Register r) = refl
-element-back (Async m) = refl
-element-back (Clocked m r) = refl
-element-back (Gate (Constant v)) = refl
-element-back (Gate Not) = refl
-element-back (Gate And) = refl
-element-back (Gate Or) = refl
-element-back (Gate Xor) = refl
-element-back (Gate Add) = refl
-element-back (Gate Subtract) = refl
-element-back (Gate Equal) = refl
-element-back (Gate Less) = refl
-element-back (Gate Choose) = refl
-element-back (Gate (Part b)) = refl
-element-back (Gate Join) = refl
+element-named x t Input = refl
+element-named x t Output = refl
+element-named x t (Register r) = refl
+element-named x t (Async m) = refl
+element-named x t (Clocked m r) = refl
+element-named x t (Gate (Constant v)) = refl
+element-named x t (Gate Not) = refl
+element-named x t (Gate And) = refl
+element-named x t (Gate Or) = refl
+element-named x t (Gate Xor) = refl
+element-named x t (Gate Add) = refl
+element-named x t (Gate Subtract) = refl
+element-named x t (Gate Equal) = refl
+element-named x t (Gate Less) = refl
+element-named x t (Gate Choose) = refl
+element-named x t (Gate (Part b)) = refl
+element-named x t (Gate Join) = refl
+
+pub element-back : (e : Element) → elementBy (codeOf e) (numberOr 0 e) (tableOr 0 e) ≡ e
+element-back = element-named 0 0
 
 -- at most three sources
 few-of : (o : Op) → operands (Gate o) ≤ 3

@@ -4,3 +4,4 @@ pub mod CircuitLaws
 pub mod Building
 pub mod Ordering
 pub mod Opened
+pub mod Order

@@ -6,8 +6,10 @@ ghost use lib.ListN.{length, getD, set};
 ghost use lib.Dec.{eqb};
 ghost use Rattle.lists.specs.Lists.{one};
 ghost use Rattle.netlist.specs.Net.{Net, noTable, spelled, size, elementAt, widthAt, source, operands, isInput, isRegister, isAsync, isClocked};
+ghost use Rattle.netlist.specs.ScanLaws.{TableAt};
+ghost use Rattle.netlist.specs.File.{tableIn};
 ghost use Rattle.circuit.specs.Code.{codeOf, numberOr, tableOr};
-ghost use Rattle.circuit.specs.Circuit.{circuitWords, field, rowNode, rowAt, nodesOf, tablesOf, orderOf, netOf, Fits, Formed, Circuit};
+ghost use Rattle.circuit.specs.Circuit.{field, rowNode, nodesOf, tablesOf, orderOf, netOf, Fits, Formed, Circuit};
 ghost use Rattle.circuit.specs.Building.{Pushed};
 
 // Where the rows begin, and the words of a row.
@@ -164,7 +166,7 @@ pub fn clocked_rom(file: &[u8], net: &[u16], v: usize) -> usize
     is_kind(code_of(file, net, v), 4)
 }
 
-// The number of tables, and the word of table k at an address.
+// The number of tables.
 pub fn table_count(file: &[u8], net: &[u16]) -> usize
     requires { ⌜ Circuit (now file) (now net) ⌝ }
     ensures { λ r. ⌜ (r ≡ length (tablesOf (now (net .entry)))) × (r ≡ length (netOf (now (file .entry)) (now (net .entry)) .tables)) × (r ≤ 16) ⌝ }
@@ -172,6 +174,38 @@ pub fn table_count(file: &[u8], net: &[u16]) -> usize
     wide(net[1])
 }
 
+// The address bits of table k, and the width of its words; past the last 1, as the definitions say.
+pub fn address_bits(file: &[u8], net: &[u16], k: usize) -> u8
+    requires { ⌜ Circuit (now file) (now net) ⌝ }
+    ensures { λ r. ⌜ r ≡ getD (netOf (now (file .entry)) (now (net .entry)) .tables) k noTable .bits ⌝ }
+{
+    if k < table_count(file, net) {
+        file[wide(net[2 + k]) + 3]
+    } else {
+        1
+    }
+}
+
+pub fn word_width(file: &[u8], net: &[u16], k: usize) -> u8
+    requires { ⌜ Circuit (now file) (now net) ⌝ }
+    ensures { λ r. ⌜ r ≡ getD (netOf (now (file .entry)) (now (net .entry)) .tables) k noTable .wide ⌝ }
+{
+    if k < table_count(file, net) {
+        file[wide(net[2 + k]) + 4]
+    } else {
+        1
+    }
+}
+
+// Where the field of table k stands in the file.
+pub fn table_place(file: &[u8], net: &[u16], k: usize) -> usize
+    requires { ⌜ Circuit (now file) (now net) × (k < length (netOf (now file) (now net) .tables)) ⌝ }
+    ensures { λ r. ⌜ TableAt (now (file .entry)) r × (tableIn (now (file .entry)) r ≡ getD (netOf (now (file .entry)) (now (net .entry)) .tables) k noTable) ⌝ }
+{
+    wide(net[2 + k])
+}
+
+// The word of table k at an address.
 pub fn table_word(file: &[u8], net: &[u16], k: usize, a: usize) -> u16
     requires { ⌜ Circuit (now file) (now net) × (k < length (netOf (now file) (now net) .tables)) × (a < 2 ^ getD (netOf (now file) (now net) .tables) k noTable .bits) ⌝ }
     ensures { λ r. ⌜ r ≡ getD (spelled (getD (netOf (now (file .entry)) (now (net .entry)) .tables) k noTable)) a 0 ⌝ }

@@ -1,19 +1,19 @@
 -- What a start reaches by steps of a class, marked. Assumes nothing.
 use mathlib.Core.Path.{_≡_, refl, sym, ap, subst, _∙_}
 use mathlib.Core.Logic.{_⊎_, inl, inr, ⊎-elim}
-use mathlib.Core.Bool.{Bool, true, false, _||_, true≢false, false≢true}
+use mathlib.Core.Bool.{Bool, true, false, _||_, true≢false}
 use mathlib.Core.List.{List}
-use Prim.Native.Nat.{ℕ, zero, suc, _+_, _≤_, _<_}
+use Prim.Native.Nat.{ℕ, _+_, _≤_, _<_}
 use native.Mathlib.Omega.{arith}
 use lib.ListN.{length, getD, set, replicate, length-set, length-replicate}
 use lib.Seq.{getD-set-same, getD-set-other}
 use lib.Dec.{ltb, eqb}
 use borrow.Author.Tests.{lt-ltb, le-ltb}
-use Rattle.lists.specs.Lists.{anyBelow, countBelow, lowest}
-use Rattle.lists.specs.BelowLaws.{true-or-false, eqb-true, eqb-self, eqb-differ, anyBelow-elim, anyBelow-intro, anyBelow-none}
+use Rattle.lists.specs.Lists.{anyBelow, countBelow}
+use Rattle.lists.specs.BelowLaws.{true-or-false, eqb-true, eqb-self, eqb-differ, anyBelow-elim, anyBelow-intro}
 use Rattle.lists.specs.SearchLaws.{count-one-more}
 use Rattle.netlist.specs.Net.{Class, Net, size, elementAt, source, Sourced}
-use Rattle.netlist.specs.Rank.{ReadsIn, Through, once, then}
+use Rattle.netlist.specs.Rank.{Through, once, then}
 use Rattle.netlist.specs.Reach.{reachesItself}
 use Rattle.netlist.specs.ReachLaws.{reaches-itself-iff}
 use Rattle.order.specs.Pass.{on, Once, Waiting, Swept, once-more}

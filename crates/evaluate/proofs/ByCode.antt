@@ -1,30 +1,33 @@
--- What a node gives, by its code. Assumes nothing.
-use mathlib.Core.Path.{_≡_, refl, ap, subst, _∙_}
+-- What a node gives and what it holds next, by its code. Assumes nothing.
+use mathlib.Core.Path.{_≡_, refl, sym, ap, ap₂, subst, _∙_}
 use mathlib.Core.Logic.{_⊎_, inl, inr}
 use mathlib.Core.Bool.{true, false, true≢false, false≢true}
 use mathlib.Core.List.{List}
-use Prim.Native.Nat.{ℕ, _+_, _*_, _^_, _≤_, _<_}
+use Prim.Native.Nat.{ℕ, _-_, _^_, _≤_, _<_}
 use native.Mathlib.Omega.{arith}
 use lib.ListN.{length, getD}
-use lib.Dec.{lit<}
 use lib.Pow.{pow-mono}
+use Rattle.lists.specs.Paths.{pick, off-eq}
 use Rattle.words.specs.declared.Op.{Op}
+use Rattle.words.specs.declared.Op.the-variants.{Constant, Part}
 use Rattle.gates.specs.Gate.{gateWord, gateWord-operate}
-use Rattle.netlist.specs.Net.{Table, noTable, Net, size, elementAt, widthAt, source, withinClock, isMemory, tableOf, contentsAt}
+use Rattle.netlist.specs.Net.{Table, noTable, Net, size, elementAt, widthAt, source, withinClock, holdsWord, isMemory, tableOf, spelled, contentsIn, contentsAt, Sourced}
 use Rattle.netlist.specs.Checks.{ElementWidths, Fits, HasTable, WellFormed}
+use Rattle.netlist.specs.NodeField.{plainOp}
 use Rattle.netlist.specs.declared.Element.{Element}
 use Rattle.netlist.specs.declared.Element.the-variants.{Input, Output, Register, Async, Clocked, Gate}
-use Rattle.nodes.specs.Code.{codeOf}
-use Rattle.columns.specs.Columns.{Columns, source-is}
-use Rattle.columns.specs.Columns as columns
-use Rattle.behaviour.specs.Run.{gives-now}
+use Rattle.circuit.specs.Code.{codeOf, opBy, elementBy, numberOr, tableOr, element-named}
+use Rattle.behaviour.specs.Run.{gives-now, holds-next}
 use Rattle.behaviour.specs.Fits.{operate-fits}
+use Rattle.evaluate.specs.Rows.{rowTest}
 use Rattle.evaluate.specs.Clock.{loaded, nodeWord, OperandsFit}
+use Rattle.evaluate.specs.Next.{nextWord, WordsFit, holder-reads}
+use Rattle.evaluate.specs.declared.Row.the-variants.{State}
 
 -- ---- the codes
 
 module _ {k : ℕ} where
-  own-code : (k ≡ 0) ⊎ (k ≡ 2) ⊎ (k ≡ 4) → (k ≡ 1 → ⊥) × (k ≡ 3 → ⊥) × (k < 5)
+  own-code : (k ≡ 0) ⊎ (k ≡ 2) ⊎ (k ≡ 4) → (k ≡ 1 → ⊥) × (k ≡ 3 → ⊥) × (k < 8)
   own-code (inl e) = (λ q. omega arith, λ q. omega arith, omega arith)
   own-code (inr (inl e)) = (λ q. omega arith, λ q. omega arith, omega arith)
   own-code (inr (inr e)) = (λ q. omega arith, λ q. omega arith, omega arith)
@@ -46,13 +49,34 @@ module _ {k : ℕ} where
   other-code a (Gate o) q = refl
 
   -- what is not loaded is an output port, an asynchronous ROM or a gate
-  pub gate-code : (e : Element) → k ≡ codeOf e → loaded e ≡ false → (k ≡ 1 → ⊥) → (k ≡ 3 → ⊥) → 5 ≤ k
+  pub gate-code : (e : Element) → k ≡ codeOf e → loaded e ≡ false → (k ≡ 1 → ⊥) → (k ≡ 3 → ⊥) → 8 ≤ k
   gate-code Input q l a b = absurd (true≢false l)
   gate-code Output q l a b = absurd (a q)
   gate-code (Register r) q l a b = absurd (true≢false l)
   gate-code (Async m) q l a b = absurd (b q)
   gate-code (Clocked m r) q l a b = absurd (true≢false l)
   gate-code (Gate o) q l a b = omega arith
+
+-- ---- a gate by its code and its number
+
+module _ (e : Element) {c x : ℕ} (k : c ≡ codeOf e) (q : x ≡ numberOr x e) where
+  named : elementBy c x (tableOr 0 e) ≡ e
+  named = ap₂ (λ (c x : ℕ). elementBy c x (tableOr 0 e)) k q ∙ element-named x 0 e
+
+  pub constant-told : c ≡ 8 → Gate (Constant x) ≡ e
+  unfolding elementBy opBy pick
+  constant-told h = ap (λ (c : ℕ). elementBy c x (tableOr 0 e)) (sym h) ∙ named
+
+  pub part-told : c ≡ 18 → Gate (Part x) ≡ e
+  unfolding elementBy opBy pick
+  part-told h = ap (λ (c : ℕ). elementBy c x (tableOr 0 e)) (sym h) ∙ named
+
+  pub plain-told : 8 ≤ c → (c ≡ 8 → ⊥) → (c ≡ 18 → ⊥) → {o : Op} → o ≡ plainOp (c - 8) → Gate o ≡ e
+  unfolding elementBy opBy
+  plain-told h a b r =
+      off-eq _ _ c 0 (λ d. omega arith) (off-eq _ _ c 1 (λ d. omega arith) (off-eq _ _ c 2 (λ d. omega arith) (off-eq _ _ c 3 (λ d. omega arith) (off-eq _ _ c 4 (λ d. omega arith)
+      (ap Gate (off-eq _ _ (c - 8) 0 (λ d. a (omega arith)) (off-eq _ _ (c - 8) 10 (λ d. b (omega arith)) r)))))))
+      ∙ named
 
 -- ---- an element
 
@@ -92,89 +116,127 @@ async-memory (Clocked m r) h = absurd (omega arith)
 async-memory (Gate o) h = absurd (omega arith)
 
 -- a memory's table is there, and its address has as many bits
-memory-table : (ts : List Table) (w : ℕ) (ws : ℕ → ℕ) (e : Element) → isMemory e ≡ true → ElementWidths ts e w ws → HasTable ts e → (tableOf e < length ts) × (ws 0 ≡ getD ts (tableOf e) noTable .bits)
-memory-table ts w ws Input h r t = absurd (false≢true h)
-memory-table ts w ws Output h r t = absurd (false≢true h)
-memory-table ts w ws (Register q) h r t = absurd (false≢true h)
-memory-table ts w ws (Async m) h r t = (t, r .0)
-memory-table ts w ws (Clocked m q) h r t = (t, r .0)
-memory-table ts w ws (Gate o) h r t = absurd (false≢true h)
+memory-table : (ts : List Table) (w : ℕ) (ws : ℕ → ℕ) (e : Element) {t : ℕ} → isMemory e ≡ true → ElementWidths ts e w ws → HasTable ts e → t ≡ tableOr t e
+    → (t ≡ tableOf e) × (tableOf e < length ts) × (ws 0 ≡ getD ts (tableOf e) noTable .bits)
+memory-table ts w ws Input h r l q = absurd (false≢true h)
+memory-table ts w ws Output h r l q = absurd (false≢true h)
+memory-table ts w ws (Register k) h r l q = absurd (false≢true h)
+memory-table ts w ws (Async m) h r l q = (q, l, r .0)
+memory-table ts w ws (Clocked m k) h r l q = (q, l, r .0)
+memory-table ts w ws (Gate o) h r l q = absurd (false≢true h)
 
--- ---- node v
+module _ (M : List ℕ) (d : ℕ → ℕ) where
+  register-holds : (e : Element) → holdsWord e ≡ true → codeOf e ≡ 2 → d 0 ≡ holds-next M e d
+  register-holds Input h k = absurd (false≢true h)
+  register-holds Output h k = absurd (false≢true h)
+  register-holds (Register r) h k = refl
+  register-holds (Async m) h k = absurd (false≢true h)
+  register-holds (Clocked m r) h k = absurd (omega arith)
+  register-holds (Gate o) h k = absurd (false≢true h)
 
-module _ (N : Net) (v : ℕ) where
-  pub memory-at : WellFormed N → v < size N → isMemory (elementAt N v) ≡ true
-      → (tableOf (elementAt N v) < length (N .tables)) × (widthAt N (source N v 0) ≡ getD (N .tables) (tableOf (elementAt N v)) noTable .bits)
-  memory-at wf h t = memory-table (N .tables) (widthAt N v) (λ p. widthAt N (source N v p)) (elementAt N v) t (wf .widths v h) (wf .has-table v h)
+  rom-holds : (e : Element) → holdsWord e ≡ true → (codeOf e ≡ 2 → ⊥) → (isMemory e ≡ true) × (getD M (d 0) 0 ≡ holds-next M e d)
+  rom-holds Input h k = absurd (false≢true h)
+  rom-holds Output h k = absurd (false≢true h)
+  rom-holds (Register r) h k = absurd (k refl)
+  rom-holds (Async m) h k = absurd (false≢true h)
+  rom-holds (Clocked m r) h k = (refl, refl)
+  rom-holds (Gate o) h k = absurd (false≢true h)
 
-  module _ (ws : List ℕ) where
-    abbrev wide : ℕ → ℕ
-    wide p = widthAt N (source N v p)
+-- ---- the table of node v, which is a memory
 
-    abbrev read : ℕ → ℕ
-    read p = getD ws (source N v p) 0
+module _ (N : Net) (v : ℕ) (wf : WellFormed N) (h : v < size N) (m : isMemory (elementAt N v) ≡ true) {t : ℕ} (q : t ≡ tableOr t (elementAt N v)) where
+  told : (t ≡ tableOf (elementAt N v)) × (tableOf (elementAt N v) < length (N .tables)) × (widthAt N (source N v 0) ≡ getD (N .tables) (tableOf (elementAt N v)) noTable .bits)
+  told = memory-table (N .tables) (widthAt N v) (λ p. widthAt N (source N v p)) (elementAt N v) m (wf .widths v h) (wf .has-table v h) q
 
-    pub node-output : codeOf (elementAt N v) ≡ 1 → read 0 ≡ nodeWord N ws v
+  module _ {a k : ℕ} (same : a ≡ k) where
+    pub memory-asks : k < 2 ^ widthAt N (source N v 0) → (t < length (N .tables)) × (a < 2 ^ getD (N .tables) t noTable .bits)
+    memory-asks low = (
+      omega (arith, told .0, told .1),
+      subst (λ (j : ℕ). a < 2 ^ getD (N .tables) j noTable .bits) (sym (told .0)) (subst (λ (j : ℕ). a < 2 ^ j) (told .2) (rw same low)),
+    )
+
+    pub memory-gives : {r : ℕ} → r ≡ getD (spelled (getD (N .tables) t noTable)) a 0 → r ≡ getD (contentsAt N v) k 0
+    unfolding contentsAt contentsIn
+    memory-gives e = e ∙ ap₂ (λ (j b : ℕ). getD (spelled (getD (N .tables) j noTable)) b 0) (told .0) same
+
+-- ---- node v in a clock: what is read of it and for it
+
+-- its width and that of its second source, and where its sources' words stand
+pub record Gathered (N : Net) (v w u x y z : ℕ) : Type 0 where
+  pub width : w ≡ widthAt N v
+  pub below : u ≡ widthAt N y
+  pub first : x ≡ source N v 0
+  pub second : y ≡ source N v 1
+  pub third : z ≡ source N v 2
+
+module _ {N : Net} {v w u x y z : ℕ} (g : Gathered N v w u x y z) (ws : List ℕ) where
+  abbrev wide : ℕ → ℕ
+  wide p = widthAt N (source N v p)
+
+  abbrev read : ℕ → ℕ
+  read p = getD ws (source N v p) 0
+
+  read-first : getD ws x 0 ≡ read 0
+  read-first = ap (λ (j : ℕ). getD ws j 0) (g .first)
+
+  pub node-output : codeOf (elementAt N v) ≡ 1 → getD ws x 0 ≡ nodeWord N ws v
+  unfolding nodeWord
+  node-output k = read-first ∙ output-gives (contentsAt N v) (widthAt N v) wide (getD ws v 0) read (elementAt N v) k
+
+  -- an asynchronous ROM
+  module _ (k : codeOf (elementAt N v) ≡ 3) where
+    pub async-asks : OperandsFit N ws v → (isMemory (elementAt N v) ≡ true) × (getD ws x 0 < 2 ^ wide 0)
+    async-asks fit = let m = async-memory (elementAt N v) k in (m .0, rw read-first (fit 0 (omega (arith, m .1))))
+
+    pub node-async : {r : ℕ} → r ≡ getD (contentsAt N v) (getD ws x 0) 0 → r ≡ nodeWord N ws v
     unfolding nodeWord
-    node-output = output-gives (contentsAt N v) (widthAt N v) wide (getD ws v 0) read (elementAt N v)
+    node-async e = e ∙ ap (λ (a : ℕ). getD (contentsAt N v) a 0) read-first ∙ async-gives (contentsAt N v) (widthAt N v) wide (getD ws v 0) read (elementAt N v) k
 
-    pub node-async : codeOf (elementAt N v) ≡ 3 → getD (contentsAt N v) (read 0) 0 ≡ nodeWord N ws v
+  -- a gate
+  module _ {o : Op} (q : Gate o ≡ elementAt N v) where
+    gathered-gate : gateWord o w u (getD ws x 0) (getD ws y 0) (getD ws z 0) ≡ nodeWord N ws v
     unfolding nodeWord
-    node-async = async-gives (contentsAt N v) (widthAt N v) wide (getD ws v 0) read (elementAt N v)
+    gathered-gate =
+        (λ i. gateWord o (g .width i) ((g .below ∙ ap (widthAt N) (g .second)) i) (getD ws (g .first i) 0) (getD ws (g .second i) 0) (getD ws (g .third i) 0))
+        ∙ gate-gives (contentsAt N v) (widthAt N v) wide (getD ws v 0) read q
 
-    pub async-asks : codeOf (elementAt N v) ≡ 3 → OperandsFit N ws v → (isMemory (elementAt N v) ≡ true) × (read 0 < 2 ^ wide 0)
-    async-asks k fit = let m = async-memory (elementAt N v) k in (m .0, fit 0 (omega (arith, m .1)))
+    gate-small : WellFormed N → v < size N → OperandsFit N ws v → nodeWord N ws v < 65536
+    unfolding nodeWord
+    gate-small wf h fit =
+        let most : 2 ^ widthAt N v ≤ 2 ^ 16 = pow-mono (wf .fields .width-high v h) in
+        omega (arith, gate-fits (contentsAt N v) (widthAt N v) wide (getD ws v 0) read (N .tables) q (wf .widths v h) (wf .fields .word-fits v h) fit)
 
-    module _ {o : Op} (q : Gate o ≡ elementAt N v) where
-      pub node-gate : gateWord o (widthAt N v) (wide 1) (read 0) (read 1) (read 2) ≡ nodeWord N ws v
-      unfolding nodeWord
-      node-gate = gate-gives (contentsAt N v) (widthAt N v) wide (getD ws v 0) read q
+    pub gate-asks : WellFormed N → v < size N → y < size N → OperandsFit N ws v → (w ≤ 16) × (u ≤ 16) × (gateWord o w u (getD ws x 0) (getD ws y 0) (getD ws z 0) < 65536)
+    gate-asks wf h l fit = (
+      omega (arith, g .width, wf .fields .width-high v h),
+      omega (arith, g .below, wf .fields .width-high y l),
+      omega (arith, gathered-gate, gate-small wf h fit),
+    )
 
-      pub gate-small : WellFormed N → v < size N → OperandsFit N ws v → nodeWord N ws v < 65536
-      unfolding nodeWord
-      gate-small wf h fit =
-          let most : 2 ^ widthAt N v ≤ 2 ^ 16 = pow-mono (wf .fields .width-high v h) in
-          omega (arith, gate-fits (contentsAt N v) (widthAt N v) wide (getD ws v 0) read (N .tables) q (wf .widths v h) (wf .fields .word-fits v h) fit)
+    pub node-gate : {r : ℕ} → r ≡ gateWord o w u (getD ws x 0) (getD ws y 0) (getD ws z 0) → r ≡ nodeWord N ws v
+    node-gate e = e ∙ gathered-gate
 
--- ---- node v by its columns: what is read of it and for it
+-- the lowest bit of a part is a bit of its source
+pub part-low : (N : Net) (v : ℕ) {x : ℕ} → WellFormed N → v < size N → source N v 0 < size N → Gate (Part x) ≡ elementAt N v → x < 256
+part-low N v wf h l q =
+    omega (arith, subst (λ (e : Element). ElementWidths (N .tables) e (widthAt N v) (λ p. widthAt N (source N v p))) (sym q) (wf .widths v h), wf .fields .width-high (source N v 0) l)
 
-pub record Gathered (N : Net) (ws : List ℕ) (v w u a b d : ℕ) : Type 0 where
-  wide : w ≡ widthAt N v
-  second-wide : u ≡ widthAt N (source N v 1)
-  pub first : a ≡ getD ws (source N v 0) 0
-  second : b ≡ getD ws (source N v 1) 0
-  third : d ≡ getD ws (source N v 2) 0
+-- ---- node v after it, which holds a word; x is the word that it reads
 
-module _ {N : Net} {codes sources : List ℕ} {n : ℕ} (t : Columns N codes sources n) {v : ℕ} (h : v < n) (inside : (p : ℕ) → source N v p < n) {x y z : ℕ}
-    (p : x ≡ getD sources (3 * v) 0) (q : y ≡ getD sources (3 * v + 1) 0) (r : z ≡ getD sources (3 * v + 2) 0) where
-  at-first : x ≡ source N v 0
-  at-first = p ∙ source-is N t v 0 (3 * v) h (lit< tt) (omega arith)
+module _ (N : Net) (ws : List ℕ) (v : ℕ) {c x u : ℕ} (k : c ≡ codeOf (elementAt N v)) (on : rowTest State N v ≡ true) (e : x ≡ getD ws u 0) (q : u ≡ source N v 0) where
+  reads : x ≡ getD ws (source N v 0) 0
+  reads = e ∙ ap (λ (j : ℕ). getD ws j 0) q
 
-  at-second : y ≡ source N v 1
-  at-second = q ∙ source-is N t v 1 (3 * v + 1) h (lit< tt) (omega arith)
+  pub next-register : c ≡ 2 → x ≡ nextWord N ws v
+  next-register h = reads ∙ register-holds (contentsAt N v) (λ p. getD ws (source N v p) 0) (elementAt N v) on (sym k ∙ h)
 
-  at-third : z ≡ source N v 2
-  at-third = r ∙ source-is N t v 2 (3 * v + 2) h (lit< tt) (omega arith)
+  module _ (not : c ≡ 2 → ⊥) where
+    holds : (isMemory (elementAt N v) ≡ true) × (getD (contentsAt N v) (getD ws (source N v 0) 0) 0 ≡ nextWord N ws v)
+    holds = rom-holds (contentsAt N v) (λ p. getD ws (source N v p) 0) (elementAt N v) on (λ h. not (k ∙ h))
 
-  pub places-inside : (x < n) × (y < n) × (z < n)
-  places-inside = (omega (arith, at-first, inside 0), omega (arith, at-second, inside 1), omega (arith, at-third, inside 2))
+    pub next-asks : WellFormed N → v < size N → WordsFit N ws → (isMemory (elementAt N v) ≡ true) × (x < 2 ^ widthAt N (source N v 0))
+    unfolding Sourced
+    next-asks wf l fit = (holds .0, rw reads (fit (source N v 0) (wf .sourced v 0 l (holder-reads (elementAt N v) on))))
 
-  pub gathered : {widths : List ℕ} → columns.Widths N widths n → (ws : List ℕ) → Gathered N ws v (getD widths v 0) (getD widths y 0) (getD ws x 0) (getD ws y 0) (getD ws z 0)
-  gathered {widths} b ws = record {
-    wide = b .width v h;
-    second-wide = ap (λ (k : ℕ). getD widths k 0) at-second ∙ b .width (source N v 1) (inside 1);
-    first = ap (λ (k : ℕ). getD ws k 0) at-first;
-    second = ap (λ (k : ℕ). getD ws k 0) at-second;
-    third = ap (λ (k : ℕ). getD ws k 0) at-third;
-  }
-
-module _ {N : Net} {ws : List ℕ} {v w u a b d : ℕ} (g : Gathered N ws v w u a b d) {o : Op} (q : Gate o ≡ elementAt N v) where
-  pub gate-gathered : gateWord o w u a b d ≡ nodeWord N ws v
-  gate-gathered = (λ i. gateWord o (g .wide i) (g .second-wide i) (g .first i) (g .second i) (g .third i)) ∙ node-gate N v ws q
-
-  pub gate-asks : WellFormed N → v < size N → source N v 1 < size N → OperandsFit N ws v → (w ≤ 16) × (u ≤ 16) × (gateWord o w u a b d < 65536)
-  gate-asks wf h l fit = (
-    omega (arith, g .wide, wf .fields .width-high v h),
-    omega (arith, g .second-wide, wf .fields .width-high (source N v 1) l),
-    omega (arith, gate-gathered, gate-small N v ws q wf h fit),
-  )
+    pub next-rom : {r : ℕ} → r ≡ getD (contentsAt N v) x 0 → r ≡ nextWord N ws v
+    next-rom i = i ∙ ap (λ (j : ℕ). getD (contentsAt N v) j 0) reads ∙ holds .1

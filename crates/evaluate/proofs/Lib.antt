@@ -1,5 +1,3 @@
-pub mod RowKinds
-pub mod Inside
+pub mod RowCodes
 pub mod ByCode
-pub mod Roms
 pub mod Rows

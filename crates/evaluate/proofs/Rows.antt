@@ -44,8 +44,8 @@ module _ (row : Row) (N : Net) {members : List ℕ} (e : members ≡ rowMembers 
   count : length members ≡ countBelow q (size N)
   count = members-count q (size N) e
 
-  pub is-node : {n i v : ℕ} → size N ≡ n → i < length members → v ≡ getD members i 0 → v < n
-  is-node z l at = omega (arith, member q (size N) e l at .low)
+  pub is-node : {i v : ℕ} → i < length members → v ≡ getD members i 0 → v < size N
+  is-node l at = member q (size N) e l at .low
 
   pub other-length : {b before after : List ℕ} → (length b ≡ 2 * length members → ⊥) → Outcome row N b before after false
   other-length {b} d = refused (load-other q w (size N) b (λ h. d (omega (arith, count))))

@@ -18,6 +18,10 @@ loaded e = isInput e || holdsWord e
 unfoldable pub nodeWord : Net → List ℕ → ℕ → ℕ
 nodeWord N ws v = gives-now (contentsAt N v) (elementAt N v) (widthAt N v) (λ p. widthAt N (source N v p)) (getD ws v 0) (getD ws v 0) (λ p. getD ws (source N v p) 0)
 
+-- all three sources of every node are nodes, also those that do not count: a node's three words are read on no condition
+abbrev pub Inside : Net → Type 0
+Inside N = (v p : ℕ) → v < size N → p < 3 → source N v p < size N
+
 -- the words that a node reads within the clock fit
 abbrev pub OperandsFit : Net → List ℕ → ℕ → Type 0
 OperandsFit N ws v = (p : ℕ) → p < withinClock (elementAt N v) → getD ws (source N v p) 0 < 2 ^ widthAt N (source N v p)

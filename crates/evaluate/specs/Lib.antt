@@ -1,4 +1,5 @@
 pub mod Rows
 pub mod Loading
 pub mod Clock
+pub mod Next
 pub mod Settling

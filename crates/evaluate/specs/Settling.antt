@@ -16,7 +16,7 @@ use Rattle.netlist.specs.Net.{Net, size, elementAt, widthAt, source, withinCloc
 use Rattle.netlist.specs.Checks.{WellFormed}
 use Rattle.netlist.specs.declared.Element.{Element}
 use Rattle.netlist.specs.declared.Element.the-variants.{Input, Output, Register, Async, Clocked, Gate}
-use Rattle.order.specs.Order.{Stands, Complete}
+use Rattle.circuit.specs.Order.{Stands, Complete}
 use Rattle.behaviour.specs.Run.{gives-now, holderOf, contentsNow, again}
 use Rattle.behaviour.specs.Gives.{operate-cong}
 use Rattle.evaluate.specs.Rows.{rowTest, rowOf, RowFits}

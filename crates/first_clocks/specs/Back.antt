@@ -1,8 +1,8 @@
 -- Where a node's word of a clock stands already at an earlier one: further back on its wire. Assumes nothing.
-use mathlib.Core.Path.{_≡_, refl, sym, ap, _∙_}
+use mathlib.Core.Path.{_≡_, ap, _∙_}
 use mathlib.Core.Logic.{⊎-elim}
-use mathlib.Core.Bool.{true, false}
-use mathlib.Core.List.{List, []}
+use mathlib.Core.Bool.{true}
+use mathlib.Core.List.{[]}
 use Prim.Native.Nat.{ℕ, suc, _+_, _-_, _≤_, _<_}
 use native.Mathlib.Omega.{arith}
 use lib.ListN.{getD}
@@ -11,7 +11,7 @@ use Rattle.netlist.specs.Net.{Net, size, elementAt, source, isRegister}
 use Rattle.netlist.specs.Checks.{WellFormed}
 use Rattle.behaviour.specs.Run.{zeroWord}
 use Rattle.retiming.specs.Rewrite.{root, passed}
-use Rattle.retiming.specs.Wires.{Rooted, ringless-rooted, wire-next, wire-none, behind, register-after, delay}
+use Rattle.retiming.specs.Wires.{ringless-rooted, wire-next, wire-none, behind, register-after, delay}
 use Rattle.first_clocks.specs.ZeroRun.{behaves}
 
 module _ (N : Net) (wf : WellFormed N) where

@@ -1,21 +1,20 @@
 -- The run from reset with all inputs 0, clock by clock in a list of words: what is loaded, what evaluating makes of it, what is held next. Assumes nothing.
-use mathlib.Core.Path.{_≡_, refl, sym, ap, ap₂, subst, _∙_}
+use mathlib.Core.Path.{_≡_, refl, sym, ap, subst, _∙_}
 use mathlib.Core.Logic.{⊎-elim}
 use mathlib.Core.Bool.{Bool, true, false, _||_, true≢false, false≢true}
 use mathlib.Core.List.{List, []}
-use Prim.Native.Nat.{ℕ, zero, suc, _+_, _^_, _≤_, _<_}
+use Prim.Native.Nat.{ℕ, suc, _+_, _^_, _<_}
 use native.Mathlib.Omega.{arith}
 use lib.ListN.{length, getD, set}
 use lib.Seq.{getD-set-same, getD-set-other}
 use lib.Pow.{pow-pos}
-use lib.Dec.{lit<}
 use Rattle.lists.specs.BelowLaws.{lt-suc-split}
 use Rattle.lists.specs.ListsLaws.{getD-select}
 use Rattle.netlist.specs.declared.Element.{Element}
 use Rattle.netlist.specs.declared.Element.the-variants.{Input, Output, Register, Async, Clocked, Gate}
-use Rattle.netlist.specs.declared.Node.{Node}
-use Rattle.netlist.specs.Net.{Net, size, nodeAt, elementAt, widthAt, source, gives, contentsAt, isInput, holdsWord, operands, portOf, Behaves, Sourced}
+use Rattle.netlist.specs.Net.{Net, size, elementAt, widthAt, source, gives, contentsAt, isInput, holdsWord, portOf, Behaves, Sourced}
 use Rattle.netlist.specs.Checks.{WellFormed}
+use Rattle.circuit.specs.Code.{numberOr}
 use Rattle.behaviour.specs.Run.{gives-now, holds-next, holds-first, holderOf, contentsNow, again, words, stateAt, runWord, zeroWord}
 use Rattle.behaviour.specs.Meaning.{settles, the-run-behaves}
 use Rattle.behaviour.specs.Settled.{settled, settled-once}
@@ -23,7 +22,7 @@ use Rattle.behaviour.specs.Fits.{words-fit}
 use Rattle.evaluate.specs.Rows.{rowTest, rowOf, RowFits}
 use Rattle.evaluate.specs.Clock.{clockWords, Evaluated}
 use Rattle.evaluate.specs.declared.Row.the-variants.{Inputs, State}
-use Rattle.run.specs.Next.{nextWord, WordsFit}
+use Rattle.evaluate.specs.Next.{nextWord, WordsFit, holder-reads, number-first}
 use Rattle.first_clocks.specs.Wanted.{WordsAt}
 
 -- input ports, registers and clocked ROMs have their words of clock t
@@ -90,14 +89,6 @@ next-gives M w ws i d t (Async m) h = absurd (false≢true h)
 next-gives M w ws i d t (Clocked m r) h = refl
 next-gives M w ws i d t (Gate o) h = absurd (false≢true h)
 
-holder-reads : (e : Element) → holdsWord e ≡ true → 0 < operands e
-holder-reads Input h = absurd (false≢true h)
-holder-reads Output h = absurd (false≢true h)
-holder-reads (Register r) h = lit< tt
-holder-reads (Async m) h = absurd (false≢true h)
-holder-reads (Clocked m r) h = lit< tt
-holder-reads (Gate o) h = absurd (false≢true h)
-
 -- it depends on the word that it reads alone
 next-same : (M : List ℕ) (d d′ : ℕ → ℕ) (e : Element) → (holdsWord e ≡ true → d 0 ≡ d′ 0) → holds-next M e d ≡ holds-next M e d′
 next-same M d d′ Input h = refl
@@ -120,7 +111,7 @@ module _ (N : Net) (wf : WellFormed N) where
   unfolding zeroWord
   behaves = the-run-behaves N (wf .sourced) (settles N wf) (λ t. [])
 
-  pub zero-fits : (t v : ℕ) → v < size N → zeroWord N t v < 2 ^ widthAt N v
+  zero-fits : (t v : ℕ) → v < size N → zeroWord N t v < 2 ^ widthAt N v
   zero-fits = words-fit N wf (λ t port. getD [] port 0) (zeroWord N) behaves (λ t v h e. pow-pos (widthAt N v))
 
   -- ---- at reset
@@ -227,7 +218,6 @@ holds-none (Gate o) h = refl
 pub first-none : (N : Net) (wf : WellFormed N) (v : ℕ) → v < size N → holdsWord (elementAt N v) ≡ false → Begins N 0 v 0
 first-none N wf v h q t = holds-none (elementAt N v) q ∙ first-word N wf v h t
 
--- the word after reset, as the code reads the node
-pub first-read : (N : Net) (wf : WellFormed N) (v : ℕ) → v < size N → {y : Node} → y ≡ nodeAt N v → (isInput (elementAt N v) || holdsWord (elementAt N v)) ≡ true → holds-first (y .element) ≡ zeroWord N 0 v
-unfolding elementAt
-first-read N wf v h is t = ap (λ (x : Node). holds-first (x .element)) is ∙ first-word N wf v h t
+-- the word after reset, as the code reads it
+pub first-read : (N : Net) (wf : WellFormed N) (v : ℕ) → v < size N → holdsWord (elementAt N v) ≡ true → {r : ℕ} → r ≡ numberOr r (elementAt N v) → Begins N 0 v r
+first-read N wf v h on q t = number-first (elementAt N v) on q ∙ first-word N wf v h t

@@ -1,67 +1,54 @@
 // The first words of a netlist: it is run from reset, with all inputs 0, and the words that are wanted are taken clock by clock.
 use areas::number_at;
 use areas::put_number;
+use circuit::node_count;
+use circuit::number_of;
+use circuit::source_of;
+use circuit::wide;
 use evaluate::Row;
 use evaluate::evaluate;
-use evaluate::lent::in_row_by;
-use index::node;
-use index::wide;
-use run::next_word;
-use run::reset_word;
+use evaluate::lent::in_row;
+use evaluate::next_word;
 ghost use mathlib.Core.Path.{_≡_};
+ghost use mathlib.Core.Bool.{true, false};
 ghost use Prim.Native.Nat.{ℕ, _+_, _-_, _<_, _≤_};
 ghost use lib.ListN.{length, getD};
-ghost use Rattle.netlist.specs.Net.{inClock};
+ghost use Rattle.netlist.specs.Net.{Net, size, inClock};
 ghost use Rattle.netlist.specs.Checks.{WellFormed};
-ghost use Rattle.netlist.specs.ScanLaws.{Found};
-ghost use Rattle.netlist.specs.File.{netIn};
-ghost use Rattle.columns.specs.Columns.{Columns, Widths};
-ghost use Rattle.order.specs.Order.{Complete};
-ghost use Rattle.run.specs.Next.{WordsFit};
+ghost use Rattle.circuit.specs.Circuit.{orderOf};
+ghost use Rattle.circuit.specs.Opened.{opened};
+ghost use Rattle.circuit.specs.Order.{Complete};
 ghost use Rattle.behaviour.specs.Run.{zeroWord};
+ghost use Rattle.evaluate.specs.Clock.{Inside};
+ghost use Rattle.evaluate.specs.Next.{WordsFit};
 ghost use Rattle.wires.specs.Traced.{AllTraced};
-ghost use Rattle.first_clocks.specs.Wanted.{OfNodes, Taken, WordsAt, due, DueBefore, Took, TakenTo};
+ghost use Rattle.first_clocks.specs.Wanted.{OfNodes, Taken, WordsAt, OfClock, due, DueAt, DueBefore, NamedTo, TakenTo};
 ghost use Rattle.first_clocks.specs.ZeroRun.{Begins, Loads};
 
-// The word of node v after reset.
-fn first_word(
-    file: &[u8],
-    tables: &[u16],
-    nodes: &[u16],
-    v: usize,
-    codes: &[u8],
-    sources: &[u16],
-) -> u16
-    requires { ⌜ Found (now file) (now tables) (now nodes) × WellFormed (netIn (now file) (now tables) (now nodes)) × (v < length (now nodes))
-        × Columns (netIn (now file) (now tables) (now nodes)) (now codes) (now sources) (length (now nodes)) ⌝ }
-    ensures { λ r. ⌜ Begins (netIn (now (file .entry)) (now (tables .entry)) (now (nodes .entry))) 0 v r ⌝ }
+// The word with which node v begins the first clock: its reset word.
+fn first_word(file: &[u8], net: &[u16], v: usize) -> u16
+    ghost { Net }
+    requires { λ N. opened 𝓤 (now file) (now net) N (WellFormed N × (v < size N)) }
+    ensures { λ N r. ⌜ Begins N 0 v r ⌝ }
 {
-    let holds = in_row_by(file, tables, nodes, Row::State, v, codes, sources);
+    let holds = in_row(file, net, Row::State, v);
     if holds {
-        let x = node(file, tables, nodes, v);
-        let e = x.element;
-        reset_word(e)
+        number_of(file, net, v) as u16
     } else {
         0
     }
 }
 
 // Loads the words after reset.
-fn load_reset(
-    file: &[u8],
-    tables: &[u16],
-    nodes: &[u16],
-    words: &mut [u16],
-    codes: &[u8],
-    sources: &[u16],
-)
-    requires { ⌜ Found (now file) (now tables) (now nodes) × WellFormed (netIn (now file) (now tables) (now nodes)) × (length (now nodes) ≤ length (now words))
-        × Columns (netIn (now file) (now tables) (now nodes)) (now codes) (now sources) (length (now nodes)) ⌝ }
-    ensures { λ _. ⌜ Loads (netIn (now (file .entry)) (now (tables .entry)) (now (nodes .entry))) 0 (now (words .exit)) ⌝ }
+fn load_reset(file: &[u8], net: &[u16], words: &mut [u16])
+    ghost { Net }
+    requires { λ N. opened 𝓤 (now file) (now net) N (WellFormed N × (size N ≤ length (now words))) }
+    ensures { λ N _. ⌜ Loads N 0 (now (words .exit)) ⌝ }
 {
+    let n = node_count(file, net);
     let mut v: usize = 0;
-    while v < nodes.len() {
-        put_number(words, v, first_word(file, tables, nodes, v, codes, sources));
+    while v < n {
+        put_number(words, v, first_word(file, net, v));
         v = v + 1;
     }
 }
@@ -106,20 +93,10 @@ fn clocks_to_run(passes: &[u16], clocks: &[u16], wanted: &[u16]) -> usize
 }
 
 // The node that has, where it is due, the word that v has at a clock: the root of its wire, or a register on the way back to it.
-fn holder(
-    file: &[u8],
-    tables: &[u16],
-    nodes: &[u16],
-    roots: &[u16],
-    passes: &[u16],
-    v: usize,
-    clock: u16,
-    codes: &[u8],
-    sources: &[u16],
-) -> usize
-    requires { ⌜ Found (now file) (now tables) (now nodes) × WellFormed (netIn (now file) (now tables) (now nodes)) × AllTraced (netIn (now file) (now tables) (now nodes)) (now roots) (now passes)
-        × Columns (netIn (now file) (now tables) (now nodes)) (now codes) (now sources) (length (now nodes)) × (v < length (now nodes)) ⌝ }
-    ensures { λ r. ⌜ (r < length (now (nodes .entry))) × (zeroWord (netIn (now (file .entry)) (now (tables .entry)) (now (nodes .entry))) clock v ≡ zeroWord (netIn (now (file .entry)) (now (tables .entry)) (now (nodes .entry))) (clock - getD (now (passes .entry)) v 0) r) ⌝ }
+fn holder(file: &[u8], net: &[u16], roots: &[u16], passes: &[u16], v: usize, clock: u16) -> usize
+    ghost { Net }
+    requires { λ N. opened 𝓤 (now file) (now net) N (WellFormed N × AllTraced N (now roots) (now passes) × (v < size N)) }
+    ensures { λ N r. ⌜ (r < size N) × (zeroWord N clock v ≡ zeroWord N (clock - getD (now (passes .entry)) v 0) r) ⌝ }
 {
     if number_at(passes, v) <= clock {
         return wide(number_at(roots, v));
@@ -127,80 +104,69 @@ fn holder(
     let mut u = v;
     let mut left = clock;
     while 0 < left {
-        u = wide(number_at(sources, 3 * u));
+        u = source_of(file, net, u, 0);
         left = left - 1;
     }
     u
 }
 
-// Takes the word that place k wants, where it is due at clock t.
-fn take(
+// Every place that wants a word names the node that has it where it is due: the word is then put over the name.
+fn name_holders(
     file: &[u8],
-    tables: &[u16],
-    nodes: &[u16],
+    net: &[u16],
     roots: &[u16],
     passes: &[u16],
-    t: u16,
     clocks: &[u16],
     wanted: &[u16],
-    words: &[u16],
-    k: usize,
     found: &mut [u16],
-    codes: &[u8],
-    sources: &[u16],
 )
-    requires { ⌜ Found (now file) (now tables) (now nodes) × WellFormed (netIn (now file) (now tables) (now nodes)) × AllTraced (netIn (now file) (now tables) (now nodes)) (now roots) (now passes)
-        × Columns (netIn (now file) (now tables) (now nodes)) (now codes) (now sources) (length (now nodes)) × OfNodes (netIn (now file) (now tables) (now nodes)) (now clocks) (now wanted) × WordsAt (netIn (now file) (now tables) (now nodes)) t (now words)
-        × (length (now clocks) ≤ length (now found)) × (k < length (now clocks)) ⌝ }
-    ensures { λ _. ⌜ Took (netIn (now (file .entry)) (now (tables .entry)) (now (nodes .entry))) (now (passes .entry)) (now (clocks .entry)) (now (wanted .entry)) t k (now (found .entry)) (now (found .exit)) ⌝ }
-{
-    let clock = clocks[k];
-    if clock < 65535 {
-        let v = wide(number_at(wanted, k));
-        if due_after(passes, v, clock) == t {
-            let u = holder(file, tables, nodes, roots, passes, v, clock, codes, sources);
-            put_number(found, k, number_at(words, u));
-        }
-    }
-}
-
-// Takes the words that are due at clock t.
-fn take_due(
-    file: &[u8],
-    tables: &[u16],
-    nodes: &[u16],
-    roots: &[u16],
-    passes: &[u16],
-    t: u16,
-    clocks: &[u16],
-    wanted: &[u16],
-    words: &[u16],
-    found: &mut [u16],
-    codes: &[u8],
-    sources: &[u16],
-)
-    requires { ⌜ Found (now file) (now tables) (now nodes) × WellFormed (netIn (now file) (now tables) (now nodes)) × AllTraced (netIn (now file) (now tables) (now nodes)) (now roots) (now passes)
-        × Columns (netIn (now file) (now tables) (now nodes)) (now codes) (now sources) (length (now nodes)) × OfNodes (netIn (now file) (now tables) (now nodes)) (now clocks) (now wanted) × WordsAt (netIn (now file) (now tables) (now nodes)) t (now words)
-        × (length (now clocks) ≤ length (now found)) ⌝ }
-    ensures { λ _. ⌜ TakenTo (netIn (now (file .entry)) (now (tables .entry)) (now (nodes .entry))) (now (passes .entry)) (now (clocks .entry)) (now (wanted .entry)) t (now (found .entry)) (now (found .exit)) (length (now (clocks .entry))) ⌝ }
+    ghost { Net }
+    requires { λ N. opened 𝓤 (now file) (now net) N (WellFormed N × AllTraced N (now roots) (now passes) × OfNodes N (now clocks) (now wanted)
+        × (length (now clocks) ≤ length (now found))) }
+    ensures { λ N _. ⌜ NamedTo N (now (passes .entry)) (now (clocks .entry)) (now (wanted .entry)) (now (found .entry)) (now (found .exit)) (length (now (clocks .entry))) ⌝ }
 {
     let mut k: usize = 0;
     while k < clocks.len() {
-        take(
-            file,
-            tables,
-            nodes,
-            roots,
-            passes,
-            t,
-            clocks,
-            wanted,
-            words,
-            k,
-            found,
-            codes,
-            sources,
-        );
+        let clock = clocks[k];
+        if clock < 65535 {
+            let v = wide(number_at(wanted, k));
+            put_number(found, k, holder(file, net, roots, passes, v, clock) as u16);
+        }
+        k = k + 1;
+    }
+}
+
+// Whether place k wants a word that is due at clock t.
+fn is_due(passes: &[u16], clocks: &[u16], wanted: &[u16], t: u16, k: usize) -> bool
+    requires { ⌜ k < length (now clocks) ⌝ }
+    ensures yes { λ r. ⌜ (r ≡ true → DueAt (now (passes .entry)) (now (clocks .entry)) (now (wanted .entry)) t k) ⌝ }
+    ensures no { λ r. ⌜ (r ≡ false → DueAt (now (passes .entry)) (now (clocks .entry)) (now (wanted .entry)) t k → ⊥) ⌝ }
+{
+    let clock = clocks[k];
+    if clock < 65535 {
+        due_after(passes, wide(number_at(wanted, k)), clock) == t
+    } else {
+        false
+    }
+}
+
+// Takes the words that are due at clock t, whose words are given.
+fn take_due(
+    passes: &[u16],
+    clocks: &[u16],
+    wanted: &[u16],
+    t: u16,
+    words: &[u16],
+    found: &mut [u16],
+)
+    requires { ⌜ length (now clocks) ≤ length (now found) ⌝ }
+    ensures { λ _. ⌜ TakenTo (now (passes .entry)) (now (clocks .entry)) (now (wanted .entry)) t (now (words .entry)) (now (found .entry)) (now (found .exit)) (length (now (clocks .entry))) ⌝ }
+{
+    let mut k: usize = 0;
+    while k < clocks.len() {
+        if is_due(passes, clocks, wanted, t, k) {
+            put_number(found, k, number_at(words, wide(number_at(found, k))));
+        }
         k = k + 1;
     }
 }
@@ -208,51 +174,28 @@ fn take_due(
 // ---- clock by clock
 
 // The word with which node v begins the next clock, from the words of this one.
-fn begins_with(
-    file: &[u8],
-    tables: &[u16],
-    nodes: &[u16],
-    v: usize,
-    words: &[u16],
-    codes: &[u8],
-    sources: &[u16],
-) -> u16
-    requires { ⌜ Found (now file) (now tables) (now nodes) × WellFormed (netIn (now file) (now tables) (now nodes)) × (v < length (now nodes))
-        × WordsFit (netIn (now file) (now tables) (now nodes)) (now words)
-        × Columns (netIn (now file) (now tables) (now nodes)) (now codes) (now sources) (length (now nodes)) ⌝ }
-    ensures { λ r. ⌜ ((t : ℕ) → WordsAt (netIn (now (file .entry)) (now (tables .entry)) (now (nodes .entry))) t (now (words .entry))
-        → Begins (netIn (now (file .entry)) (now (tables .entry)) (now (nodes .entry))) (t + 1) v r) ⌝ }
+fn begins_with(file: &[u8], net: &[u16], v: usize, words: &[u16]) -> u16
+    ghost { Net }
+    requires { λ N. opened 𝓤 (now file) (now net) N (WellFormed N × (v < size N) × WordsFit N (now words)) }
+    ensures { λ N r. ⌜ ((t : ℕ) → WordsAt N t (now (words .entry)) → Begins N (t + 1) v r) ⌝ }
 {
-    if in_row_by(file, tables, nodes, Row::State, v, codes, sources) {
-        next_word(file, tables, nodes, v, words, codes, sources)
+    if in_row(file, net, Row::State, v) {
+        next_word(file, net, v, words)
     } else {
         0
     }
 }
 
 // Loads the words with which the next clock begins.
-fn load_next(
-    file: &[u8],
-    tables: &[u16],
-    nodes: &[u16],
-    words: &[u16],
-    next: &mut [u16],
-    codes: &[u8],
-    sources: &[u16],
-)
-    requires { ⌜ Found (now file) (now tables) (now nodes) × WellFormed (netIn (now file) (now tables) (now nodes)) × (length (now nodes) ≤ length (now next))
-        × WordsFit (netIn (now file) (now tables) (now nodes)) (now words)
-        × Columns (netIn (now file) (now tables) (now nodes)) (now codes) (now sources) (length (now nodes)) ⌝ }
-    ensures { λ _. ⌜ ((t : ℕ) → WordsAt (netIn (now (file .entry)) (now (tables .entry)) (now (nodes .entry))) t (now (words .entry))
-        → Loads (netIn (now (file .entry)) (now (tables .entry)) (now (nodes .entry))) (t + 1) (now (next .exit))) ⌝ }
+fn load_next(file: &[u8], net: &[u16], words: &[u16], next: &mut [u16])
+    ghost { Net }
+    requires { λ N. opened 𝓤 (now file) (now net) N (WellFormed N × (size N ≤ length (now next)) × WordsFit N (now words)) }
+    ensures { λ N _. ⌜ ((t : ℕ) → WordsAt N t (now (words .entry)) → Loads N (t + 1) (now (next .exit))) ⌝ }
 {
+    let n = node_count(file, net);
     let mut v: usize = 0;
-    while v < nodes.len() {
-        put_number(
-            next,
-            v,
-            begins_with(file, tables, nodes, v, words, codes, sources),
-        );
+    while v < n {
+        put_number(next, v, begins_with(file, net, v, words));
         v = v + 1;
     }
 }
@@ -270,81 +213,53 @@ fn copy(from: &[u16], to: &mut [u16])
 }
 
 // The words of the first clock.
-pub fn first_clock(
-    file: &[u8],
-    tables: &[u16],
-    nodes: &[u16],
-    order: &[u16],
-    words: &mut [u16],
-    codes: &[u8],
-    sources: &[u16],
-    widths: &[u8],
-)
-    requires { ⌜ Found (now file) (now tables) (now nodes) × WellFormed (netIn (now file) (now tables) (now nodes))
-        × Complete inClock (netIn (now file) (now tables) (now nodes)) (now order) × (length (now nodes) ≤ length (now words))
-        × Columns (netIn (now file) (now tables) (now nodes)) (now codes) (now sources) (length (now nodes)) × Widths (netIn (now file) (now tables) (now nodes)) (now widths) (length (now nodes)) ⌝ }
-    ensures { λ _. ⌜ WordsAt (netIn (now (file .entry)) (now (tables .entry)) (now (nodes .entry))) 0 (now (words .exit)) ⌝ }
+pub fn first_clock(file: &[u8], net: &[u16], words: &mut [u16])
+    ghost { Net }
+    requires { λ N. opened 𝓤 (now file) (now net) N (WellFormed N × Inside N × Complete inClock N (orderOf (now net)) × (size N ≤ length (now words))) }
+    ensures { λ N _. ⌜ WordsAt N 0 (now (words .exit)) ⌝ }
 {
-    load_reset(file, tables, nodes, words, codes, sources);
-    evaluate(file, tables, nodes, order, words, codes, sources, widths);
+    load_reset(file, net, words);
+    evaluate(file, net, words);
+}
+
+// The words of the next clock, over those of this one.
+fn next_clock(file: &[u8], net: &[u16], words: &mut [u16])
+    ghost { Net }
+    requires { λ N. opened 𝓤 (now file) (now net) N (WellFormed N × Inside N × Complete inClock N (orderOf (now net)) × (length (now words) ≡ 1024) × OfClock N (now words)) }
+    ensures { λ N _. ⌜ ((t : ℕ) → WordsAt N t (now (words .entry)) → WordsAt N (t + 1) (now (words .exit))) ⌝ }
+{
+    let mut next = [0u16; 1024];
+    load_next(file, net, words, &mut next);
+    copy(&next, words);
+    evaluate(file, net, words);
 }
 
 // Takes all words that are wanted, from the words of the first clock on. Place k wants the word of node wanted[k] at clock clocks[k], or none where that is 65,535.
 pub fn first_words(
     file: &[u8],
-    tables: &[u16],
-    nodes: &[u16],
-    order: &[u16],
+    net: &[u16],
     roots: &[u16],
     passes: &[u16],
     start: &[u16],
     clocks: &[u16],
     wanted: &[u16],
     found: &mut [u16],
-    codes: &[u8],
-    sources: &[u16],
-    widths: &[u8],
 )
-    requires { ⌜ Found (now file) (now tables) (now nodes) × WellFormed (netIn (now file) (now tables) (now nodes))
-        × Complete inClock (netIn (now file) (now tables) (now nodes)) (now order) × AllTraced (netIn (now file) (now tables) (now nodes)) (now roots) (now passes)
-        × Columns (netIn (now file) (now tables) (now nodes)) (now codes) (now sources) (length (now nodes)) × OfNodes (netIn (now file) (now tables) (now nodes)) (now clocks) (now wanted) × (length (now clocks) ≤ length (now found))
-        × Widths (netIn (now file) (now tables) (now nodes)) (now widths) (length (now nodes)) × WordsAt (netIn (now file) (now tables) (now nodes)) 0 (now start) × (length (now start) ≡ 1024) ⌝ }
-    ensures { λ _. ⌜ Taken (netIn (now (file .entry)) (now (tables .entry)) (now (nodes .entry))) (now (clocks .entry)) (now (wanted .entry)) (now (found .entry)) (now (found .exit)) ⌝ }
+    ghost { Net }
+    requires { λ N. opened 𝓤 (now file) (now net) N (WellFormed N × Inside N × Complete inClock N (orderOf (now net)) × AllTraced N (now roots) (now passes)
+        × OfNodes N (now clocks) (now wanted) × (length (now clocks) ≤ length (now found)) × WordsAt N 0 (now start) × (length (now start) ≡ 1024)) }
+    ensures { λ N _. ⌜ Taken N (now (clocks .entry)) (now (wanted .entry)) (now (found .entry)) (now (found .exit)) ⌝ }
 {
     let mut words = [0u16; 1024];
-    let mut next = [0u16; 1024];
+    name_holders(file, net, roots, passes, clocks, wanted, found);
     let limit = clocks_to_run(passes, clocks, wanted);
     copy(start, &mut words);
     let mut t: usize = 0;
     while t < limit {
-        take_due(
-            file,
-            tables,
-            nodes,
-            roots,
-            passes,
-            t as u16,
-            clocks,
-            wanted,
-            &words,
-            found,
-            codes,
-            sources,
-        );
+        take_due(passes, clocks, wanted, t as u16, &words, found);
         t = t + 1;
         if t < limit {
-            load_next(file, tables, nodes, &words, &mut next, codes, sources);
-            copy(&next, &mut words);
-            evaluate(
-                file,
-                tables,
-                nodes,
-                order,
-                &mut words,
-                codes,
-                sources,
-                widths,
-            );
+            next_clock(file, net, &mut words);
         }
     }
 }

@@ -1,3 +1,3 @@
-pub mod Lengths
-pub mod Written
+pub mod NewRow
 pub mod PlannedNode
+pub mod Laid

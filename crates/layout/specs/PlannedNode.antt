@@ -1,10 +1,9 @@
 -- A node of the rewritten netlist, from its plan. Assumes nothing.
-use mathlib.Core.Path.{_≡_, refl, sym, ap, ap₂, subst, _∙_}
+use mathlib.Core.Path.{_≡_, refl, sym, ap, ap₂, _∙_}
 use mathlib.Core.Logic.{⊎-elim}
 use mathlib.Core.Bool.{Bool, cond}
 use mathlib.Core.List.{List, [], _∷_}
-use Prim.Native.Nat.{ℕ, suc, _+_, _*_, _≤_, _<_}
-use native.Mathlib.Omega.{arith}
+use Prim.Native.Nat.{ℕ, _+_, _*_, _≤_, _<_}
 use lib.ListN.{getD}
 use lib.Dec.{ltb}
 use borrow.Author.Tests.{lt-ltb, le-ltb}
@@ -12,12 +11,16 @@ use Rattle.lists.specs.BelowLaws.{lt-or-le}
 use Rattle.netlist.specs.declared.Element.{Element}
 use Rattle.netlist.specs.declared.Element.the-variants.{Register}
 use Rattle.netlist.specs.declared.Node.{Node}
-use Rattle.netlist.specs.Net.{Net, size, nodeAt, elementAt, widthAt, source, operands, tableOf}
+use Rattle.netlist.specs.Net.{Net, nodeAt, elementAt, widthAt, source, operands, tableOf}
 use Rattle.behaviour.specs.Run.{zeroWord}
 use Rattle.retiming.specs.Rewrite.{Place, Entry, Reg, newElement, newTable, newSource, numberOf, along, places, nodeOf, timing}
 use Rattle.retiming.specs.Layout.{noPlace}
+use Rattle.layout.specs.NewRow.{entryNode, registerNode}
 use Rattle.plan.specs.Plan.{RegAt, Planned}
-use Rattle.layout.specs.Written.{newNode}
+
+-- node i
+abbrev pub newNode : Net → ℕ → Node
+newNode N i = nodeOf N (timing N) (zeroWord N) (getD (places N (timing N) (zeroWord N)) i noPlace)
 
 -- what stands in a work area from an offset on, for the first n
 abbrev pub readBy : List ℕ → ℕ → ℕ → ℕ → ℕ
@@ -44,7 +47,7 @@ module _ {N : Net} {owners words sources : List ℕ} {entries total : ℕ} (t : 
         (λ l. let e = le-ltb p (operands (elementAt N u)) l in
         ap (λ (b : Bool). cond b (getD sources (3 * i + p) 0) 0) e ∙ sym (ap (λ (b : Bool). cond b (numberOf N (timing N) (zeroWord N) (along N (timing N) (zeroWord N) u c p 0)) 0) e)) (lt-or-le p (operands (elementAt N u)))
 
-    pub entry-new : {v x : ℕ} {y : Node} → v ≡ u → x ≡ c → y ≡ nodeAt N v → {a b d : ℕ} {e : Element} → e ≡ newElement (y .element) (tableOf (y .element)) x
+    entry-new : {v x : ℕ} {y : Node} → v ≡ u → x ≡ c → y ≡ nodeAt N v → {a b d : ℕ} {e : Element} → e ≡ newElement (y .element) (tableOf (y .element)) x
         → a ≡ readBy sources (3 * i) (operands (y .element)) 0 → b ≡ readBy sources (3 * i) (operands (y .element)) 1 → d ≡ readBy sources (3 * i) (operands (y .element)) 2
         → _≡_ {A = Node} (record { element = e; width = y .width; sources = a ∷ b ∷ d ∷ [] }) (newNode N i)
     unfolding nodeOf newTable elementAt widthAt
@@ -58,6 +61,11 @@ module _ {N : Net} {owners words sources : List ℕ} {entries total : ℕ} (t : 
         (l ∙ ap (λ (z : Node). readBy sources (3 * i) (operands (z .element)) 2) n ∙ source-new 2)
         ∙ ap (nodeOf N (timing N) (zeroWord N)) (sym (t .entry i h))
 
+    pub entry-made : {v x : ℕ} → v ≡ u → x ≡ c → {a b d : ℕ} → a ≡ readBy sources (3 * i) (operands (elementAt N v)) 0 → b ≡ readBy sources (3 * i) (operands (elementAt N v)) 1
+        → d ≡ readBy sources (3 * i) (operands (elementAt N v)) 2 → entryNode N v x (a ∷ b ∷ d ∷ []) ≡ newNode N i
+    unfolding elementAt widthAt
+    entry-made q r e f g = entry-new q r refl refl e f g
+
   -- a register
   reg-new : (pl : Place) → RegAt N owners words sources i pl
       → _≡_ {A = Node} (record { element = Register (getD words i 0); width = widthAt N (getD owners i 0); sources = getD sources (3 * i) 0 ∷ 0 ∷ 0 ∷ [] }) (nodeOf N (timing N) (zeroWord N) pl)
@@ -65,6 +73,5 @@ module _ {N : Net} {owners words sources : List ℕ} {entries total : ℕ} (t : 
   reg-new (Entry u c) h = absurd h
   reg-new (Reg x c p j) (g, g′, g″) = node-as (ap Register g′) (ap (widthAt N) g) g″ refl refl
 
-  pub register-new : entries ≤ i → i < total → {v w r a : ℕ} → v ≡ getD owners i 0 → w ≡ widthAt N v → r ≡ getD words i 0 → a ≡ getD sources (3 * i) 0
-      → _≡_ {A = Node} (record { element = Register r; width = w; sources = a ∷ 0 ∷ 0 ∷ [] }) (newNode N i)
-  register-new h l q k e f = node-as (ap Register e) (k ∙ ap (widthAt N) q) f refl refl ∙ reg-new (getD (places N (timing N) (zeroWord N)) i noPlace) (t .register i h l)
+  pub register-made : entries ≤ i → i < total → {v r a : ℕ} → v ≡ getD owners i 0 → r ≡ getD words i 0 → a ≡ getD sources (3 * i) 0 → registerNode N v r (a ∷ 0 ∷ 0 ∷ []) ≡ newNode N i
+  register-made h l q e f = node-as (ap Register e) (ap (widthAt N) q) f refl refl ∙ reg-new (getD (places N (timing N) (zeroWord N)) i noPlace) (t .register i h l)

@@ -1,43 +1,29 @@
-// The rewritten file: the head, the tables as they came, the planned nodes, the end.
+// The planned netlist as a circuit: the tables as they came, and each node as it is planned.
 use areas::number_at;
-use columns::kinds::code_of;
-use index::node;
-use index::wide;
-use index::width;
-use netlist::Element;
-use netlist::Node;
-use nodes::source_count;
-use words::word_at;
-use writer::put_node;
-use writer::put_table;
+use circuit::Row;
+use circuit::async_rom;
+use circuit::clocked_rom;
+use circuit::code_of;
+use circuit::number_of;
+use circuit::push_row;
+use circuit::source_count;
+use circuit::table_of;
+use circuit::wide;
+use circuit::width_of;
+use opening::copy_head;
 ghost use mathlib.Core.Path.{_≡_};
-ghost use Prim.Native.Nat.{_+_, _≤_, _<_};
-ghost use lib.ListN.{length, getD};
-ghost use Rattle.netlist.specs.Net.{tableOf};
-ghost use Rattle.netlist.specs.ScanLaws.{Found};
-ghost use Rattle.netlist.specs.File.{netIn};
-ghost use Rattle.columns.specs.Columns.{Columns};
-ghost use Rattle.codec.specs.ContentLength.{contentLength};
-ghost use Rattle.retiming.specs.Rewrite.{newElement};
+ghost use mathlib.Core.Bool.{cond};
+ghost use mathlib.Core.List.{[], _∷_};
+ghost use Prim.Native.Nat.{_≤_, _<_};
+ghost use lib.ListN.{length};
+ghost use lib.Dec.{eqb};
+ghost use Rattle.netlist.specs.Net.{Net, size};
+ghost use Rattle.circuit.specs.Circuit.{circuitWords, netOf, Circuit};
+ghost use Rattle.circuit.specs.Opened.{opened};
+ghost use Rattle.retiming.specs.Rewrite.{rewritten};
 ghost use Rattle.plan.specs.Plan.{Planned};
-ghost use Rattle.writer.specs.Written.{Puts};
-ghost use Rattle.layout.specs.Written.{newNode, nodesBefore, TablesCame, tablesBefore};
-ghost use Rattle.layout.specs.PlannedNode.{readBy};
-ghost use Rattle.layout.specs.Lengths.{restByCode};
-
-// What becomes of an element: a ROM is clocked, with a reset word.
-fn new_element(e: Element, word: u16) -> Element
-    ensures { λ r. ⌜ r ≡ newElement e (tableOf e) word ⌝ }
-{
-    match e {
-        Element::Input => Element::Input,
-        Element::Output => Element::Output,
-        Element::Register(reset) => Element::Register(reset),
-        Element::Async(memory) => Element::Clocked(memory, word),
-        Element::Clocked(memory, _) => Element::Clocked(memory, word),
-        Element::Gate(op) => Element::Gate(op),
-    }
-}
+ghost use Rattle.layout.specs.PlannedNode.{newNode, readBy};
+ghost use Rattle.layout.specs.NewRow.{entryNode, registerNode, RowOf};
 
 // The number at the p-th place from an offset on, where p is below n; else 0.
 fn read_by(sources: &[u16], at: usize, n: usize, p: usize) -> u16
@@ -47,187 +33,101 @@ fn read_by(sources: &[u16], at: usize, n: usize, p: usize) -> u16
     if p < n { number_at(sources, at + p) } else { 0 }
 }
 
-// The i-th node of the rewritten netlist, as it is planned.
-fn planned_node(
+// The number of a new row: a ROM's is its reset word, and any other's stays.
+fn held(memory: usize, word: u16, number: u16) -> u16
+    ensures { λ r. ⌜ r ≡ cond (eqb memory 1) word number ⌝ }
+{
+    if memory == 1 { word } else { number }
+}
+
+// The row of old node u, where a ROM is clocked. Kinds follow no pattern, so there is no branch on them.
+fn entry_row(file: &[u8], net: &[u16], u: usize, word: u16, sources: [u16; 3]) -> Row
+    ghost { Net }
+    requires { λ N. opened 𝓤 (now file) (now net) N (u < size N) }
+    ensures { λ N r. ⌜ RowOf r (entryNode N u word sources) ⌝ }
+{
+    let rom = async_rom(file, net, u);
+    let memory = rom + clocked_rom(file, net, u);
+    let code = code_of(file, net, u) + rom;
+    let number = held(memory, word, number_of(file, net, u) as u16);
+    Row {
+        code: code as u16,
+        width: width_of(file, net, u) as u16,
+        count: source_count(file, net, u) as u16,
+        sources,
+        number,
+        table: table_of(file, net, u) as u16,
+    }
+}
+
+// The row of a register of a wire, which is as wide as old node u.
+fn register_row(file: &[u8], net: &[u16], u: usize, word: u16, from: u16) -> Row
+    ghost { Net }
+    requires { λ N. opened 𝓤 (now file) (now net) N (u < size N) }
+    ensures { λ N r. ⌜ RowOf r (registerNode N u word (from ∷ 0 ∷ 0 ∷ [])) ⌝ }
+{
+    Row {
+        code: 2,
+        width: width_of(file, net, u) as u16,
+        count: 1,
+        sources: [from, 0, 0],
+        number: word,
+        table: 0,
+    }
+}
+
+// The row of the i-th node of the rewritten netlist, as it is planned.
+fn planned_row(
     file: &[u8],
-    tables: &[u16],
-    nodes: &[u16],
+    net: &[u16],
     entries: usize,
     total: usize,
     owners: &[u16],
     words: &[u16],
     sources: &[u16],
     i: usize,
-) -> Node
-    requires { ⌜ Found (now file) (now tables) (now nodes) × Planned (netIn (now file) (now tables) (now nodes)) (now owners) (now words) (now sources) entries total
-        × (total ≤ 1024) × (i < total) ⌝ }
-    ensures { λ r. ⌜ r ≡ newNode (netIn (now (file .entry)) (now (tables .entry)) (now (nodes .entry))) i ⌝ }
+) -> Row
+    ghost { Net }
+    requires { λ N. opened 𝓤 (now file) (now net) N (Planned N (now owners) (now words) (now sources) entries total × (total ≤ 1024) × (i < total)) }
+    ensures { λ N r. ⌜ RowOf r (newNode N i) ⌝ }
 {
     let owner = wide(number_at(owners, i));
     let word = number_at(words, i);
     let at = 3 * i;
     if i < entries {
-        let old = node(file, tables, nodes, owner);
-        let e = old.element;
-        let n = source_count(e);
+        let n = source_count(file, net, owner);
         let first = read_by(sources, at, n, 0);
         let second = read_by(sources, at, n, 1);
         let third = read_by(sources, at, n, 2);
-        Node {
-            element: new_element(e, word),
-            width: old.width,
-            sources: [first, second, third],
-        }
+        entry_row(file, net, owner, word, [first, second, third])
     } else {
-        let from = number_at(sources, at);
-        Node {
-            element: Element::Register(word),
-            width: width(file, tables, nodes, owner),
-            sources: [from, 0, 0],
-        }
+        register_row(file, net, owner, word, number_at(sources, at))
     }
 }
 
-// How many bytes follow kind and width, by code, three bits for each.
-const REST: u64 = 1582040158690064;
-
-// How long the content of an old node is in the rewritten file, where its ROM is clocked.
-fn new_length(code: usize) -> usize
-    requires { ⌜ code < 17 ⌝ }
-    ensures { λ r. ⌜ (r ≡ 2 + getD restByCode code 0) × (r ≤ 9) ⌝ }
-{
-    2 + ((REST >> (3 * code)) % 8) as usize
-}
-
-// How long the content of the i-th node of the rewritten netlist is.
-fn planned_length(
+// The circuit of the rewritten netlist.
+pub fn lay_circuit(
     file: &[u8],
-    tables: &[u16],
-    nodes: &[u16],
+    net: &[u16],
     entries: usize,
     total: usize,
     owners: &[u16],
     words: &[u16],
     sources: &[u16],
-    i: usize,
-    codes: &[u8],
-    reads: &[u16],
-) -> usize
-    requires { ⌜ Found (now file) (now tables) (now nodes) × Planned (netIn (now file) (now tables) (now nodes)) (now owners) (now words) (now sources) entries total
-        × Columns (netIn (now file) (now tables) (now nodes)) (now codes) (now reads) (length (now nodes)) × (total ≤ 1024) × (i < total) ⌝ }
-    ensures { λ r. ⌜ (r ≡ contentLength (newNode (netIn (now (file .entry)) (now (tables .entry)) (now (nodes .entry))) i .element)) × (r ≤ 9) ⌝ }
+    new: &mut [u16],
+)
+    ghost { Net }
+    requires { λ N. opened 𝓤 (now file) (now net) N (Planned N (now owners) (now words) (now sources) entries total × (total ≤ 1024) × (circuitWords ≤ length (now new))) }
+    ensures { λ N _. ⌜ (netOf (now (file .entry)) (now (new .exit)) ≡ rewritten N) × Circuit (now (file .entry)) (now (new .exit)) ⌝ }
 {
-    if i < entries {
-        new_length(code_of(codes, wide(number_at(owners, i))))
-    } else {
-        6
-    }
-}
-
-// How many bytes the planned nodes take.
-pub fn nodes_length(
-    file: &[u8],
-    tables: &[u16],
-    nodes: &[u16],
-    entries: usize,
-    total: usize,
-    owners: &[u16],
-    words: &[u16],
-    sources: &[u16],
-    codes: &[u8],
-    reads: &[u16],
-) -> usize
-    requires { ⌜ Found (now file) (now tables) (now nodes) × Planned (netIn (now file) (now tables) (now nodes)) (now owners) (now words) (now sources) entries total
-        × Columns (netIn (now file) (now tables) (now nodes)) (now codes) (now reads) (length (now nodes)) × (total ≤ 1024) ⌝ }
-    ensures { λ r. ⌜ (r ≡ length (nodesBefore (netIn (now (file .entry)) (now (tables .entry)) (now (nodes .entry))) total)) × (r ≤ 12288) ⌝ }
-{
-    let mut sum: usize = 0;
+    copy_head(file, net, new);
     let mut i: usize = 0;
     while i < total {
-        let length = planned_length(
-            file,
-            tables,
-            nodes,
-            entries,
-            total,
-            owners,
-            words,
-            sources,
+        push_row(
+            new,
             i,
-            codes,
-            reads,
+            planned_row(file, net, entries, total, owners, words, sources, i),
         );
-        sum = sum + 3 + length;
         i = i + 1;
     }
-    sum
-}
-
-// Writes the planned nodes.
-pub fn put_nodes(
-    file: &[u8],
-    tables: &[u16],
-    nodes: &[u16],
-    entries: usize,
-    total: usize,
-    owners: &[u16],
-    words: &[u16],
-    sources: &[u16],
-    out: &mut [u8],
-    at: usize,
-) -> usize
-    requires { ⌜ Found (now file) (now tables) (now nodes) × Planned (netIn (now file) (now tables) (now nodes)) (now owners) (now words) (now sources) entries total
-        × (total ≤ 1024) × (at + length (nodesBefore (netIn (now file) (now tables) (now nodes)) total) ≤ length (now out)) ⌝ }
-    ensures { λ r. ⌜ Puts (now (out .entry)) at (nodesBefore (netIn (now (file .entry)) (now (tables .entry)) (now (nodes .entry))) total) r (now (out .exit)) ⌝ }
-{
-    let mut next = at;
-    let mut i: usize = 0;
-    while i < total {
-        let x = planned_node(
-            file,
-            tables,
-            nodes,
-            entries,
-            total,
-            owners,
-            words,
-            sources,
-            i,
-        );
-        next = put_node(out, next, x);
-        i = i + 1;
-    }
-    next
-}
-
-// How many bytes the table fields take.
-pub fn tables_length(file: &[u8], tables: &[u16], nodes: &[u16]) -> usize
-    requires { ⌜ Found (now file) (now tables) (now nodes) × TablesCame (now file) (now tables) ⌝ }
-    ensures { λ r. ⌜ (r ≡ length (tablesBefore (now (file .entry)) (now (tables .entry)) (length (now (tables .entry))))) × (r ≤ 1100000) ⌝ }
-{
-    let mut sum: usize = 0;
-    let mut k: usize = 0;
-    while k < tables.len() {
-        let from = wide(tables[k]);
-        sum = sum + 3 + word_at(file, from + 1) as usize;
-        k = k + 1;
-    }
-    sum
-}
-
-// Writes the table fields as they came.
-pub fn put_tables(file: &[u8], tables: &[u16], nodes: &[u16], out: &mut [u8], at: usize) -> usize
-    requires { ⌜ Found (now file) (now tables) (now nodes) × TablesCame (now file) (now tables)
-        × (at + length (tablesBefore (now file) (now tables) (length (now tables))) ≤ length (now out)) ⌝ }
-    ensures { λ r. ⌜ Puts (now (out .entry)) at (tablesBefore (now (file .entry)) (now (tables .entry)) (length (now (tables .entry)))) r (now (out .exit)) ⌝ }
-{
-    let mut next = at;
-    let mut k: usize = 0;
-    while k < tables.len() {
-        let from = wide(tables[k]);
-        let to = from + 3 + word_at(file, from + 1) as usize;
-        next = put_table(file, from, to, out, next);
-        k = k + 1;
-    }
-    next
 }

@@ -4,11 +4,9 @@ use mathlib.Core.List.{List}
 use Prim.Native.Nat.{ℕ, _+_, _-_, _≤_, _<_}
 use native.Mathlib.Decide.{ℕ-discrete}
 use native.Mathlib.Omega.{arith}
-use lib.ListN.{length, getD, set, replicate, length-set, length-replicate}
+use lib.ListN.{length, getD, set, replicate, length-set, length-replicate, getD-replicate}
 use lib.Seq.{getD-set-same, getD-set-other}
-use Rattle.netlist.specs.Net.{Net, size, elementAt, source, operands, Sourced}
-use Rattle.columns.specs.Columns.{Columns}
-use Rattle.order.specs.OrderLaws.{zeros-off}
+use Rattle.netlist.specs.Net.{Net, size, elementAt, source, operands}
 use Rattle.retiming.specs.Leads.{asyncHere, registerHere, Walk, here, step, leaves, enters}
 use Rattle.retiming.specs.Elements.{async-le}
 use Rattle.retiming.specs.AtMostRoms.{romCount}
@@ -24,13 +22,6 @@ pub record Excess (N : Net) (u k : ℕ) : Type 0 where
 pub record Walked (N : Net) (L : List ℕ) : Type 0 where
   pub room : size N ≤ length L
   pub each : (u : ℕ) → u < size N → Excess N u (getD L u 0)
-
--- what is at hand: the nodes in columns, every source is a node, asynchronous ROMs are marked, and there are so many
-pub record Given (N : Net) (roms codes reads : List ℕ) (bound : ℕ) : Type 0 where
-  pub columns : Columns N codes reads (size N)
-  pub sourced : Sourced N
-  pub marked : (v : ℕ) → v < size N → getD roms v 0 ≡ asyncHere N v
-  pub count : bound ≡ romCount N
 
 -- reader x, whose own number is k, asks no more of its operand p
 abbrev pub Served : Net → ℕ → ℕ → List ℕ → ℕ → Type 0
@@ -67,7 +58,7 @@ module _ (N : Net) where
   -- the empty walk
   pub walked-zeros : (m : ℕ) → size N ≤ m → Walked N (replicate m 0)
   unfolding leaves enters
-  walked-zeros m h = record { room = simp length-replicate h; each = λ u l. record { end = u; walk = here refl; exact = sym (zeros-off m u) ∙ omega arith } }
+  walked-zeros m h = record { room = simp length-replicate h; each = λ u l. record { end = u; walk = here refl; exact = omega (arith, getD-replicate {A = ℕ} m u 0 0 (omega arith)) } }
 
   module _ {L : List ℕ} {D : List ℕ → Type 0} where
     pub progress-none : Walked N L → D L → Progress N L L 0 D

@@ -1,57 +1,41 @@
-// The leads of an indexed netlist, and with them the checks 11 and 12. Numbers from 0 up are raised until no reader asks more of what it reads.
+// The leads of an opened netlist, and with them the checks 11 and 12. Numbers from 0 up are raised until no reader asks more of what it reads.
 mod worklist;
 
 use areas::fill;
-use areas::flag_at;
 use areas::number_at;
-use areas::put_flag;
-use columns::kinds::code_of;
-use columns::kinds::is_kind;
-use index::wide;
+use circuit::async_rom;
+use circuit::input;
+use circuit::node_count;
+use circuit::register;
+use circuit::source_count;
+use circuit::source_of;
+use circuit::wide;
 use netlist::Verdict;
-use nodes::code_sources;
 use worklist::spread;
 ghost use mathlib.Core.Path.{_≡_};
-ghost use Prim.Native.Nat.{ℕ, _+_, _<_, _≤_};
+ghost use Prim.Native.Nat.{_+_, _<_, _≤_};
 ghost use lib.ListN.{length, getD};
 ghost use lib.Dec.{ltb};
 ghost use Rattle.lists.specs.Lists.{anyBelow, lowest};
-ghost use Rattle.netlist.specs.Net.{Sourced};
-ghost use Rattle.netlist.specs.ScanLaws.{Found};
-ghost use Rattle.netlist.specs.File.{netIn};
-ghost use Rattle.columns.specs.Columns.{Columns};
-ghost use Rattle.retiming.specs.Leads.{asyncHere, owingPort};
+ghost use Rattle.netlist.specs.Net.{Net, size, Sourced};
+ghost use Rattle.circuit.specs.Circuit.{netOf, Circuit};
+ghost use Rattle.circuit.specs.Opened.{opened};
+ghost use Rattle.retiming.specs.Leads.{owingPort};
 ghost use Rattle.retiming.specs.AtMostRoms.{romCount};
 ghost use Rattle.leads.specs.Debts.{debtsVerdict};
-ghost use Rattle.leads.specs.Progress.{Walked, Given, Content, Quiet, Raise, Progress};
+ghost use Rattle.leads.specs.Progress.{Walked, Content, Quiet, Raise, Progress};
 ghost use Rattle.leads.specs.Settled.{LeadsIn, Outcome};
 
-fn wide_bit(x: u8) -> usize
-    ensures { λ r. ⌜ (r ≡ x) × (r ≤ 255) ⌝ }
+// The number of asynchronous ROMs.
+fn count_roms(file: &[u8], net: &[u16]) -> usize
+    requires { ⌜ Circuit (now file) (now net) ⌝ }
+    ensures { λ r. ⌜ r ≡ romCount (netOf (now (file .entry)) (now (net .entry))) ⌝ }
 {
-    x as usize
-}
-
-// Marks the asynchronous ROMs and gives their number.
-fn mark_roms(
-    file: &[u8],
-    tables: &[u16],
-    nodes: &[u16],
-    roms: &mut [u8],
-    codes: &[u8],
-    reads: &[u16],
-) -> usize
-    requires { ⌜ Found (now file) (now tables) (now nodes) × (length (now nodes) ≤ length (now roms))
-        × Columns (netIn (now file) (now tables) (now nodes)) (now codes) (now reads) (length (now nodes)) ⌝ }
-    ensures { λ r. ⌜ (r ≡ romCount (netIn (now (file .entry)) (now (tables .entry)) (now (nodes .entry))))
-        × ((v : ℕ) → v < length (now (nodes .entry)) → getD (now (roms .exit)) v 0 ≡ asyncHere (netIn (now (file .entry)) (now (tables .entry)) (now (nodes .entry))) v) ⌝ }
-{
+    let n = node_count(file, net);
     let mut count: usize = 0;
     let mut v: usize = 0;
-    while v < nodes.len() {
-        let rom = is_kind(code_of(codes, v), 3);
-        put_flag(roms, v, rom as u8);
-        count = count + rom;
+    while v < n {
+        count = count + async_rom(file, net, v);
         v = v + 1;
     }
     count
@@ -70,34 +54,22 @@ fn raise(leads: &mut [u16], u: usize, due: usize, taken: usize) -> usize
 }
 
 // Raises the leads of what x reads as far as x asks, and gives how many it raised. A lead over the bound shows a closed debt, and asks for no more.
-fn relax(
-    file: &[u8],
-    tables: &[u16],
-    nodes: &[u16],
-    roms: &[u8],
-    bound: usize,
-    x: usize,
-    leads: &mut [u16],
-    codes: &[u8],
-    reads: &[u16],
-) -> usize
-    requires { ⌜ Found (now file) (now tables) (now nodes) × Given (netIn (now file) (now tables) (now nodes)) (now roms) (now codes) (now reads) bound
-        × (x < length (now nodes)) × Walked (netIn (now file) (now tables) (now nodes)) (now leads) ⌝ }
-    ensures { λ r. ⌜ (r ≤ 3) × Progress (netIn (now (file .entry)) (now (tables .entry)) (now (nodes .entry))) (now (leads .entry)) (now (leads .exit)) r
-        (Content (netIn (now (file .entry)) (now (tables .entry)) (now (nodes .entry))) x) ⌝ }
+fn relax(file: &[u8], net: &[u16], bound: usize, x: usize, leads: &mut [u16]) -> usize
+    ghost { Net }
+    requires { λ N. opened 𝓤 (now file) (now net) N (Sourced N × (bound ≡ romCount N) × (x < size N) × Walked N (now leads)) }
+    ensures { λ N r. ⌜ (r ≤ 3) × Progress N (now (leads .entry)) (now (leads .exit)) r (Content N x) ⌝ }
 {
     let own = wide(number_at(leads, x));
     if bound < own {
         return 0;
     }
-    let code = code_of(codes, x);
-    let taken = is_kind(code, 2);
-    let n = code_sources(code);
+    let taken = register(file, net, x);
+    let n = source_count(file, net, x);
     let mut raised: usize = 0;
     let mut p: usize = 0;
     while p < n {
-        let u = wide(number_at(reads, 3 * x + p));
-        raised = raised + raise(leads, u, wide_bit(flag_at(roms, u)) + own, taken);
+        let u = source_of(file, net, x, p);
+        raised = raised + raise(leads, u, async_rom(file, net, u) + own, taken);
         p = p + 1;
     }
     raised
@@ -106,25 +78,16 @@ fn relax(
 // ---- passes until no reader asks more
 
 // One pass over all readers; gives how many leads it raised.
-fn pass(
-    file: &[u8],
-    tables: &[u16],
-    nodes: &[u16],
-    roms: &[u8],
-    bound: usize,
-    leads: &mut [u16],
-    codes: &[u8],
-    reads: &[u16],
-) -> usize
-    requires { ⌜ Found (now file) (now tables) (now nodes) × Given (netIn (now file) (now tables) (now nodes)) (now roms) (now codes) (now reads) bound
-        × Walked (netIn (now file) (now tables) (now nodes)) (now leads) ⌝ }
-    ensures { λ r. ⌜ Progress (netIn (now (file .entry)) (now (tables .entry)) (now (nodes .entry))) (now (leads .entry)) (now (leads .exit)) r
-        (Quiet (netIn (now (file .entry)) (now (tables .entry)) (now (nodes .entry))) (length (now (nodes .entry)))) ⌝ }
+fn pass(file: &[u8], net: &[u16], bound: usize, leads: &mut [u16]) -> usize
+    ghost { Net }
+    requires { λ N. opened 𝓤 (now file) (now net) N (Sourced N × (bound ≡ romCount N) × Walked N (now leads)) }
+    ensures { λ N r. ⌜ Progress N (now (leads .entry)) (now (leads .exit)) r (Quiet N (size N)) ⌝ }
 {
+    let n = node_count(file, net);
     let mut raised: usize = 0;
     let mut x: usize = 0;
-    while x < nodes.len() {
-        raised = raised + relax(file, tables, nodes, roms, bound, x, leads, codes, reads);
+    while x < n {
+        raised = raised + relax(file, net, bound, x, leads);
         x = x + 1;
     }
     raised
@@ -145,25 +108,17 @@ fn over_bound(leads: &[u16], n: usize, bound: usize) -> bool
 }
 
 // Whether the leads settle; if not, a closed walk has positive excess.
-fn settle(
-    file: &[u8],
-    tables: &[u16],
-    nodes: &[u16],
-    roms: &[u8],
-    bound: usize,
-    leads: &mut [u16],
-    codes: &[u8],
-    reads: &[u16],
-) -> bool
-    requires { ⌜ Found (now file) (now tables) (now nodes) × Given (netIn (now file) (now tables) (now nodes)) (now roms) (now codes) (now reads) bound
-        × Walked (netIn (now file) (now tables) (now nodes)) (now leads) ⌝ }
-    ensures { λ r. ⌜ Outcome (netIn (now (file .entry)) (now (tables .entry)) (now (nodes .entry))) (now (leads .exit)) r ⌝ }
+fn settle(file: &[u8], net: &[u16], bound: usize, leads: &mut [u16]) -> bool
+    ghost { Net }
+    requires { λ N. opened 𝓤 (now file) (now net) N (Sourced N × (bound ≡ romCount N) × Walked N (now leads)) }
+    ensures { λ N r. ⌜ Outcome N (now (leads .exit)) r ⌝ }
 {
+    let n = node_count(file, net);
     loop {
-        if over_bound(leads, nodes.len(), bound) {
+        if over_bound(leads, n, bound) {
             return false;
         }
-        if pass(file, tables, nodes, roms, bound, leads, codes, reads) == 0 {
+        if pass(file, net, bound, leads) == 0 {
             return true;
         }
     }
@@ -172,19 +127,12 @@ fn settle(
 // ---- check 12
 
 // Whether v is an input port with a positive lead.
-fn owes(
-    file: &[u8],
-    tables: &[u16],
-    nodes: &[u16],
-    leads: &[u16],
-    v: usize,
-    codes: &[u8],
-    reads: &[u16],
-) -> bool
-    requires { ⌜ Found (now file) (now tables) (now nodes) × Columns (netIn (now file) (now tables) (now nodes)) (now codes) (now reads) (length (now nodes)) × (v < length (now nodes)) × LeadsIn (netIn (now file) (now tables) (now nodes)) (now leads) ⌝ }
-    ensures { λ r. ⌜ r ≡ owingPort (netIn (now (file .entry)) (now (tables .entry)) (now (nodes .entry))) v ⌝ }
+fn owes(file: &[u8], net: &[u16], leads: &[u16], v: usize) -> bool
+    ghost { Net }
+    requires { λ N. opened 𝓤 (now file) (now net) N ((v < size N) × LeadsIn N (now leads)) }
+    ensures { λ N r. ⌜ r ≡ owingPort N v ⌝ }
 {
-    if is_kind(code_of(codes, v), 0) == 1 {
+    if input(file, net, v) == 1 {
         0 < wide(number_at(leads, v))
     } else {
         false
@@ -192,20 +140,15 @@ fn owes(
 }
 
 // The lowest input port with a positive lead, or the number of nodes.
-fn lowest_owing(
-    file: &[u8],
-    tables: &[u16],
-    nodes: &[u16],
-    leads: &[u16],
-    codes: &[u8],
-    reads: &[u16],
-) -> usize
-    requires { ⌜ Found (now file) (now tables) (now nodes) × Columns (netIn (now file) (now tables) (now nodes)) (now codes) (now reads) (length (now nodes)) × LeadsIn (netIn (now file) (now tables) (now nodes)) (now leads) ⌝ }
-    ensures { λ r. ⌜ r ≡ lowest (length (now (nodes .entry))) (owingPort (netIn (now (file .entry)) (now (tables .entry)) (now (nodes .entry)))) ⌝ }
+fn lowest_owing(file: &[u8], net: &[u16], leads: &[u16]) -> usize
+    ghost { Net }
+    requires { λ N. opened 𝓤 (now file) (now net) N (LeadsIn N (now leads)) }
+    ensures { λ N r. ⌜ r ≡ lowest (size N) (owingPort N) ⌝ }
 {
+    let n = node_count(file, net);
     let mut v: usize = 0;
-    while v < nodes.len() {
-        if owes(file, tables, nodes, leads, v, codes, reads) {
+    while v < n {
+        if owes(file, net, leads, v) {
             return v;
         }
         v = v + 1;
@@ -214,39 +157,19 @@ fn lowest_owing(
 }
 
 // Finds the leads of a netlist, or says 11 or 12; nothing is then said of the numbers left in the work area.
-// The order is a hint, best an evaluation order of the nodes: it saves time, and any numbers will do.
-pub fn find_leads(
-    file: &[u8],
-    tables: &[u16],
-    nodes: &[u16],
-    order: &[u16],
-    leads: &mut [u16],
-    codes: &[u8],
-    reads: &[u16],
-) -> Verdict
-    requires { ⌜ Found (now file) (now tables) (now nodes) × Sourced (netIn (now file) (now tables) (now nodes)) × (1024 ≤ length (now leads))
-        × Columns (netIn (now file) (now tables) (now nodes)) (now codes) (now reads) (length (now nodes)) ⌝ }
-    ensures { λ r. ⌜ (r ≡ debtsVerdict (netIn (now (file .entry)) (now (tables .entry)) (now (nodes .entry))))
-        × (r ≡ Verdict.Fine → LeadsIn (netIn (now (file .entry)) (now (tables .entry)) (now (nodes .entry))) (now (leads .exit))) ⌝ }
+// The circuit's order is a hint, best an evaluation order of the nodes: it saves time, and any numbers will do.
+pub fn find_leads(file: &[u8], net: &[u16], leads: &mut [u16]) -> Verdict
+    ghost { Net }
+    requires { λ N. opened 𝓤 (now file) (now net) N (Sourced N × (1024 ≤ length (now leads))) }
+    ensures { λ N r. ⌜ (r ≡ debtsVerdict N) × (r ≡ Verdict.Fine → LeadsIn N (now (leads .exit))) ⌝ }
 {
-    let mut roms = [0u8; 1024];
-    let bound = mark_roms(file, tables, nodes, &mut roms, codes, reads);
+    let bound = count_roms(file, net);
     // The empty walk's excess at every node.
     fill(leads, 0);
-    spread(
-        file,
-        tables,
-        nodes,
-        &roms,
-        bound,
-        order,
-        leads,
-        codes,
-        reads,
-    );
-    if settle(file, tables, nodes, &roms, bound, leads, codes, reads) {
-        let port = lowest_owing(file, tables, nodes, leads, codes, reads);
-        if port < nodes.len() {
+    spread(file, net, bound, leads);
+    if settle(file, net, bound, leads) {
+        let port = lowest_owing(file, net, leads);
+        if port < node_count(file, net) {
             return Verdict::Refuses(12, port as u16);
         }
         return Verdict::Fine;

@@ -7,14 +7,13 @@ use words::operand_count;
 use words::word_at;
 ghost use mathlib.Core.Path.{_≡_};
 ghost use Prim.Native.Nat.{_+_, _*_, _<_, _≤_};
-ghost use lib.ListN.{length, getD};
+ghost use lib.ListN.{length};
 ghost use lib.Dec.{ltb};
 ghost use Rattle.lists.specs.Paths.{pick};
 ghost use Rattle.words.specs.Words.{word};
 ghost use Rattle.words.specs.Gates.{operandsOf};
 ghost use Rattle.netlist.specs.Net.{operands};
-ghost use Rattle.nodes.specs.Code.{sourcesByCode, clockByCode};
-ghost use Rattle.netlist.specs.NodeField.{opNumber, plainOp, sourcesFrom, firstSource};
+ghost use Rattle.netlist.specs.NodeField.{opNumber, plainOp, sourcesFrom};
 
 // The operation that is its number alone.
 pub fn plain_op(k: u8) -> Op
@@ -73,41 +72,21 @@ pub fn source_count(e: Element) -> usize
     }
 }
 
-// The elements by one number, their code: the kinds, where each operation of a gate counts as a kind. Two bits of a number for each code say
-// how many sources it has, and how many of them count within the clock: a table of constants would be put on the stack at each look.
-const SOURCES: u64 = 10647933268;
-
-const IN_CLOCK: u64 = 10647932996;
-
-pub fn code_sources(code: usize) -> usize
-    requires { ⌜ code < 17 ⌝ }
-    ensures { λ r. ⌜ (r ≡ getD sourcesByCode code 0) × (r ≤ 3) ⌝ }
+// 1 where i is below n. Found by arithmetic, and so is what hangs on it: how many sources a node has follows no pattern, and the branch that a test may
+// become would be predicted wrong.
+fn kept(i: usize, n: usize) -> u16
+    requires { ⌜ (i < 3) × (n ≤ 3) ⌝ }
+    ensures { λ r. ⌜ r ≡ pick (ltb i n) 1 0 ⌝ }
 {
-    ((SOURCES >> (2 * code)) % 4) as usize
+    ((n + 3 - i) / 4) as u16
 }
 
-pub fn code_in_clock(code: usize) -> usize
-    requires { ⌜ code < 17 ⌝ }
-    ensures { λ r. ⌜ (r ≡ getD clockByCode code 0) × (r ≤ 3) ⌝ }
-{
-    ((IN_CLOCK >> (2 * code)) % 4) as usize
-}
-
-// Where the first source of an element stands: behind kind and width, and a gate's behind its operation.
-pub fn first_source(e: Element) -> usize
-    ensures { λ r. ⌜ r ≡ firstSource e ⌝ }
-{
-    match e {
-        Element::Gate(_) => 3,
-        _ => 2,
-    }
-}
-
-// A word that counts where i is below n. It is there in any case: how many sources a node has follows no pattern, and a branch on it would be predicted wrong.
+// A word that counts where i is below n. It is there in any case.
 fn word_kept(word: u16, i: usize, n: usize) -> u16
+    requires { ⌜ (i < 3) × (n ≤ 3) ⌝ }
     ensures { λ r. ⌜ r ≡ pick (ltb i n) word 0 ⌝ }
 {
-    if i < n { word } else { 0 }
+    word * kept(i, n)
 }
 
 // The word at a place, or 0 where i is not below n.
@@ -123,7 +102,7 @@ pub type Sources = [u16; 3];
 
 // At most three sources, from the place of the first.
 pub fn sources_from(s: &[u8], at: usize, n: usize) -> Sources
-    requires { ⌜ at + 2 * n ≤ length (now s) ⌝ }
+    requires { ⌜ (at + 2 * n ≤ length (now s)) × (n ≤ 3) ⌝ }
     ensures { λ r. ⌜ r ≡ sourcesFrom (now (s .entry)) at n ⌝ }
 {
     if 5 < s.len() - at {

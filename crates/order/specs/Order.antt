@@ -1,11 +1,13 @@
--- An order of nodes in which each comes after those that it reads by steps of a class. Assumes nothing.
+-- An order of nodes in the making, each after those that it reads by steps of a class. Assumes nothing.
 use mathlib.Core.Path.{_≡_}
-use mathlib.Core.Bool.{Bool, true, false}
+use mathlib.Core.Bool.{Bool, true}
 use mathlib.Core.List.{List}
 use Prim.Native.Nat.{ℕ, _≤_, _<_}
-use lib.ListN.{length, getD}
+use lib.ListN.{length}
 use Rattle.lists.specs.Lists.{allBelow, countBelow}
 use Rattle.netlist.specs.Net.{Class, inClock, inRegisters, Net, size, elementAt, source}
+use Rattle.netlist.specs.Rank.{Through}
+use Rattle.circuit.specs.Order.{Stands, Ordered, Complete}
 use Rattle.order.specs.Pass.{on, Once, Swept}
 use Rattle.order.specs.declared.Steps.{Steps}
 use Rattle.order.specs.declared.Steps.the-variants.{InClock, InRegisters}
@@ -15,20 +17,6 @@ abbrev pub classOf : Steps → Class
 classOf InClock = inClock
 classOf InRegisters = inRegisters
 
--- v stands among the first k of a list
-abbrev pub Stands : List ℕ → ℕ → ℕ → Type 0
-Stands order k v = (j : ℕ) × (j < k) × (getD order j 0 ≡ v)
-
--- the first k of a list are nodes, and each comes after those that it reads: a topological order
-pub record Ordered (K : Class) (N : Net) (order : List ℕ) (k : ℕ) : Type 0 where
-  pub inside : (i : ℕ) → i < k → getD order i 0 < size N
-  pub after : (i p : ℕ) → i < k → p < K .of (elementAt N (getD order i 0)) → Stands order i (source N (getD order i 0) p)
-
--- and every node is there
-pub record Complete (K : Class) (N : Net) (order : List ℕ) : Type 0 where
-  pub ordered : Ordered K N order (size N)
-  pub all : (v : ℕ) → v < size N → Stands order (size N) v
-
 -- ---- an order in the making: k nodes stand in it, and these are flagged
 
 pub record Placed (K : Class) (N : Net) (flags order : List ℕ) (k : ℕ) : Type 0 where
@@ -37,10 +25,6 @@ pub record Placed (K : Class) (N : Net) (flags order : List ℕ) (k : ℕ) : Typ
   pub ordered : Ordered K N order k
   pub count : countBelow (λ v. on flags v) (size N) ≡ k
   pub stands : (v : ℕ) → v < size N → on flags v ≡ true → Stands order k v
-
--- no node from v on is flagged
-abbrev pub Clear : Net → List ℕ → ℕ → Type 0
-Clear N flags v = (u : ℕ) → v ≤ u → u < size N → on flags u ≡ false
 
 -- all that v reads is flagged
 abbrev pub ready : Class → Net → List ℕ → ℕ → Bool
@@ -52,3 +36,9 @@ PlacedOnce K N flags₀ flags order k₀ k v = Once (Placed K N flags order k) (
 
 abbrev pub PlacedPass : Class → Net → List ℕ → List ℕ → List ℕ → ℕ → ℕ → ℕ → Type 0
 PlacedPass K N flags₀ flags order k₀ k i = Swept (Placed K N flags order k) (ready K N) flags₀ flags k₀ k i
+
+-- what the placing of all nodes leaves, k of them placed: all, in an order; or a node that reaches itself
+pub record Outcome (K : Class) (N : Net) (order : List ℕ) (k : ℕ) : Type 0 where
+  pub few : k ≤ size N
+  pub full : k ≡ size N → Complete K N order
+  pub left : k < size N → (u : ℕ) × Through K N u u

@@ -4,19 +4,19 @@ use mathlib.Core.Logic.{_⊎_, ⊎-elim}
 use mathlib.Core.Bool.{Bool, true, false, true≢false}
 use mathlib.Core.List.{List}
 use Prim.Native.Nat.{ℕ, zero, suc, _+_, _≤_, _<_}
-use native.Mathlib.Nat.{not-suc-le-zero, le-refl, add-zero}
+use native.Mathlib.Nat.{not-suc-le-zero, le-refl}
 use native.Mathlib.Omega.{arith}
-use lib.ListN.{length, getD, set, replicate, length-set, length-replicate, getD-replicate}
-use lib.Seq.{getD-set-same, getD-set-other, set-getD}
+use lib.ListN.{length, getD, set, replicate, length-set, length-replicate}
+use lib.Seq.{getD-set-same, getD-set-other}
 use lib.Dec.{ltb, eqb}
-use borrow.Author.Tests.{ltb-false}
 use Rattle.lists.specs.Lists.{one, anyBelow, allBelow, countBelow}
 use Rattle.lists.specs.BelowLaws.{true-or-false, lt-suc-split, eqb-true, eqb-differ, allBelow-elim, allBelow-fails, anyBelow-intro, countBelow-le}
-use Rattle.lists.specs.SearchLaws.{count-one-more, count-less, count-same}
+use Rattle.lists.specs.SearchLaws.{count-one-more, count-less}
 use Rattle.netlist.specs.Net.{Class, Net, size, elementAt, source, Sourced}
 use Rattle.netlist.specs.Rank.{ReadsIn, Through, once, then, unsettled, unsettled-loop}
 use Rattle.order.specs.Pass.{on, Waiting}
-use Rattle.order.specs.Order.{Stands, Ordered, Complete, Placed, Clear, ready}
+use Rattle.circuit.specs.Order.{Stands, Ordered, Complete}
+use Rattle.order.specs.Order.{Placed, ready, Outcome}
 
 pub zeros-off : (m v : ℕ) → _≡_ {A = ℕ} (getD (replicate m 0) v 0) 0
 zeros-off zero v = refl
@@ -26,6 +26,15 @@ zeros-off (suc m) (suc v) = zeros-off m v
 pub no-count : (q : ℕ → Bool) (n : ℕ) → ((v : ℕ) → q v ≡ false) → countBelow q n ≡ 0
 no-count q zero h = refl
 no-count q (suc n) h = omega (arith, no-count q n h, ap one (h n))
+
+-- fewer pass than there are: one does not
+some-off : (q : ℕ → Bool) (n : ℕ) → countBelow q n < n → (v : ℕ) × (v < n) × (q v ≡ false)
+some-off q zero h = absurd (not-suc-le-zero h)
+some-off q (suc n) h =
+    ⊎-elim (λ t. wider (some-off q n (omega (arith, ap one t)))) (λ t. (n, omega arith, t)) (true-or-false (q n))
+  where
+    wider : (v : ℕ) × (v < n) × (q v ≡ false) → (v : ℕ) × (v < suc n) × (q v ≡ false)
+    wider (v, l, e) = (v, omega arith, e)
 
 module _ (K : Class) (N : Net) where
   pub placed-none : (m : ℕ) (order : List ℕ) → size N ≤ m → size N ≤ length order → Placed K N (replicate m 0) order 0
@@ -137,26 +146,6 @@ module _ (K : Class) (N : Net) where
       stands = stands-more;
     }
 
-  -- ---- the nodes that read nothing, in file order
-
-  pub clear-none : {flags order : List ℕ} → Placed K N flags order 0 → Clear N flags 0
-  clear-none {flags} t u a l = ⊎-elim (λ y. absurd (not-suc-le-zero (t .stands u l y .1))) (λ n. n) (true-or-false (on flags u))
-
-  pub clear-more : (flags : List ℕ) (v x : ℕ) → Clear N flags v → Clear N (set flags v x) (v + 1)
-  clear-more flags v x f u a l = ap (ltb 0) (getD-set-other flags v u x 0 (λ e. omega arith)) ∙ f u (omega arith) l
-
-  -- node v is placed where it reads nothing; else what is written changes nothing
-  module _ {flags order : List ℕ} {k : ℕ} (t : Placed K N flags order k) (sourced : Sourced N) (v : ℕ) (l : v < size N) (off : on flags v ≡ false) where
-    unset : set flags v 0 ≡ flags
-    unset = ap (set flags v) (let e : 0 ≡ getD flags v 0 = omega (arith, ltb-false 0 (getD flags v 0) off) in e) ∙ set-getD flags v 0
-
-    placed-if : (b : Bool) → (b ≡ true → ready K N flags v ≡ true) → Placed K N (set flags v (one b)) (set order k v) (k + one b)
-    placed-if true all = placed-more t sourced v l off (all refl)
-    placed-if false all = rw (unset, add-zero) (placed-past t v)
-
-    pub placed-free : (n : ℕ) → n ≡ K .of (elementAt N v) → Placed K N (set flags v (one (eqb n 0))) (set order k v) (k + one (eqb n 0))
-    placed-free n q = placed-if (eqb n 0) (λ y. ap (λ (m : ℕ). allBelow m (λ p. on flags (source N v p))) (sym q ∙ eqb-true y))
-
   -- ---- nothing in the order is on a loop
 
   module _ {order : List ℕ} {k : ℕ} (o : Ordered K N order k) where
@@ -190,3 +179,13 @@ module _ (K : Class) (N : Net) where
 
     pub left-loop : (v : ℕ) → v < size N → on flags v ≡ false → (u : ℕ) × Through K N u u
     left-loop v l e = unsettled-loop K N sourced v l (left-unsettled (size N) v l e)
+
+    -- where nothing more can be placed
+    pub outcome : Outcome K N order k
+    outcome = record { few = few t; full = complete t; left = λ l. left l (unflagged l) }
+      where
+        unflagged : k < size N → (v : ℕ) × (v < size N) × (on flags v ≡ false)
+        unflagged l = some-off (λ v. on flags v) (size N) (omega (arith, t .count))
+
+        left : k < size N → (v : ℕ) × (v < size N) × (on flags v ≡ false) → (u : ℕ) × Through K N u u
+        left l (v, h, e) = left-loop v h e

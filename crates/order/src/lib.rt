@@ -1,25 +1,24 @@
-// Puts the nodes of an indexed netlist into an order in which each comes after what it reads within the clock (or among registers).
-// A depth-first walk proposes the order and nobody trusts it: a node is placed only where all that it reads is placed.
-mod depth_first;
-mod free;
+// Puts the nodes of a circuit into an order in which each comes after what it reads within the clock.
+// A walk proposes the order and nobody trusts it: a node is placed only where all that it reads is placed.
+pub mod proposal;
 
 use areas::flag_at;
+use areas::number_at;
 use areas::put_flag;
-use areas::put_number;
-use depth_first::walk_all;
-use index::wide;
-use nodes::code_in_clock;
+use circuit::clocked_rom;
+use circuit::node_count;
+use circuit::put_order;
+use circuit::register;
+use circuit::source_count;
+use circuit::source_of;
+use circuit::wide;
 ghost use mathlib.Core.Path.{_≡_};
-ghost use mathlib.Core.Bool.{true};
 ghost use Prim.Native.Nat.{_<_, _≤_};
-ghost use lib.ListN.{length};
-ghost use lib.Dec.{eqb};
-ghost use Rattle.netlist.specs.Net.{size, elementAt, Sourced};
-ghost use Rattle.columns.specs.Columns.{Columns};
-ghost use Rattle.netlist.specs.ScanLaws.{Found};
-ghost use Rattle.netlist.specs.File.{netIn};
+ghost use Rattle.netlist.specs.Net.{Net, size, elementAt, inClock, Sourced};
+ghost use Rattle.circuit.specs.Circuit.{netOf, orderOf, Circuit};
+ghost use Rattle.circuit.specs.Opened.{opened};
 ghost use Rattle.order.specs.Pass.{Waiting};
-ghost use Rattle.order.specs.Order.{classOf, Placed, ready, PlacedOnce, PlacedPass};
+ghost use Rattle.order.specs.Order.{classOf, Placed, ready, PlacedOnce, PlacedPass, Outcome};
 
 // The steps that count: those within the clock (check 9), or those into registers (check 10).
 pub enum Steps {
@@ -27,165 +26,115 @@ pub enum Steps {
     InRegisters,
 }
 
-// How many sources of node v, from the first on, count.
-pub fn count_at(
-    file: &[u8],
-    tables: &[u16],
-    nodes: &[u16],
-    steps: Steps,
-    v: usize,
-    codes: &[u8],
-    sources: &[u16],
-) -> usize
-    requires { ⌜ Columns (netIn (now file) (now tables) (now nodes)) (now codes) (now sources) (length (now nodes)) × (v < length (now nodes)) × (v < 1024) ⌝ }
-    ensures { λ r. ⌜ (r ≡ classOf steps .of (elementAt (netIn (now (file .entry)) (now (tables .entry)) (now (nodes .entry))) v)) × (r ≤ 3) ⌝ }
+// How many sources of node v, from the first on, count. Kinds follow no pattern: there is no branch on them.
+pub fn count_at(file: &[u8], net: &[u16], steps: Steps, v: usize) -> usize
+    ghost { Net }
+    requires { λ N. opened 𝓤 (now file) (now net) N (v < size N) }
+    ensures { λ N r. ⌜ (r ≡ classOf steps .of (elementAt N v)) × (r ≤ 3) ⌝ }
 {
-    let code = codes[v] as usize;
     match steps {
-        Steps::InClock => code_in_clock(code),
-        Steps::InRegisters => { if code == 2 { 1 } else { 0 } }
+        Steps::InClock => {
+            let n = source_count(file, net, v);
+            let held = register(file, net, v) + clocked_rom(file, net, v);
+            if held == 0 { n } else { 0 }
+        }
+        Steps::InRegisters => register(file, net, v),
     }
 }
 
-// The first source of v that counts and is not flagged, or the number of nodes: then v is ready.
-fn first_waiting(
-    file: &[u8],
-    tables: &[u16],
-    nodes: &[u16],
-    steps: Steps,
-    v: usize,
-    flags: &[u8],
-    codes: &[u8],
-    sources: &[u16],
-) -> usize
-    requires { ⌜ Found (now file) (now tables) (now nodes) × Sourced (netIn (now file) (now tables) (now nodes)) × (v < length (now nodes)) × (length (now nodes) ≤ length (now flags))
-        × Columns (netIn (now file) (now tables) (now nodes)) (now codes) (now sources) (length (now nodes)) ⌝ }
-    ensures { λ r. ⌜ (r ≤ length (now (nodes .entry)))
-        × (ready (classOf steps) (netIn (now (file .entry)) (now (tables .entry)) (now (nodes .entry))) (now (flags .entry)) v ≡ eqb r (length (now (nodes .entry)))) ⌝ }
+// Whether all that node v reads within the clock is flagged.
+fn is_ready(file: &[u8], net: &[u16], flags: &[u8], v: usize) -> bool
+    ghost { Net }
+    requires { λ N. opened 𝓤 (now file) (now net) N (v < size N) }
+    ensures { λ N r. ⌜ r ≡ ready inClock N (now (flags .entry)) v ⌝ }
 {
-    let n = count_at(file, tables, nodes, steps, v, codes, sources);
-    let from = 3 * v;
+    let n = count_at(file, net, Steps::InClock, v);
     let mut p: usize = 0;
     while p < n {
-        let u = wide(sources[from + p]);
-        if flags[u] == 0 {
-            return u;
+        if flag_at(flags, source_of(file, net, v, p)) == 0 {
+            return false;
         }
         p = p + 1;
     }
-    nodes.len()
+    true
 }
 
-// Places v, which is ready, next where it is not placed yet; gives the number of nodes placed.
-fn place_ready(
-    file: &[u8],
-    tables: &[u16],
-    nodes: &[u16],
-    steps: Steps,
-    v: usize,
-    flags: &mut [u8],
-    order: &mut [u16],
-    k: usize,
-) -> usize
-    requires { ⌜ Found (now file) (now tables) (now nodes) × Sourced (netIn (now file) (now tables) (now nodes)) × (v < length (now nodes))
-        × Placed (classOf steps) (netIn (now file) (now tables) (now nodes)) (now flags) (now order) k
-        × (ready (classOf steps) (netIn (now file) (now tables) (now nodes)) (now flags) v ≡ true) ⌝ }
-    ensures { λ r. ⌜ PlacedOnce (classOf steps) (netIn (now (file .entry)) (now (tables .entry)) (now (nodes .entry))) (now (flags .entry)) (now (flags .exit)) (now (order .exit)) k r v ⌝ }
+// Places node v next where it is ready and not placed yet; gives the number of nodes placed.
+fn place(file: &[u8], net: &mut [u16], flags: &mut [u8], v: usize, k: usize) -> usize
+    ghost { Net }
+    requires { λ N. opened 𝓤 (now file) (now net) N (Sourced N × (v < size N) × Placed inClock N (now flags) (orderOf (now net)) k) }
+    ensures { λ N r. ⌜ (netOf (now (file .entry)) (now (net .exit)) ≡ N) × Circuit (now (file .entry)) (now (net .exit))
+        × PlacedOnce inClock N (now (flags .entry)) (now (flags .exit)) (orderOf (now (net .exit))) k r v ⌝ }
 {
     if 0 < flag_at(flags, v) {
         return k;
     }
-    put_flag(flags, v, 1);
-    put_number(order, k, v as u16);
-    k + 1
+    if is_ready(file, net, flags, v) {
+        put_flag(flags, v, 1);
+        put_order(file, net, k, v as u16);
+        return k + 1;
+    }
+    k
 }
 
-// Places v next where it is ready and not placed yet; gives the number of nodes placed.
-fn place(
-    file: &[u8],
-    tables: &[u16],
-    nodes: &[u16],
-    steps: Steps,
-    v: usize,
-    flags: &mut [u8],
-    order: &mut [u16],
-    k: usize,
-    codes: &[u8],
-    sources: &[u16],
-) -> usize
-    requires { ⌜ Found (now file) (now tables) (now nodes) × Sourced (netIn (now file) (now tables) (now nodes)) × (v < length (now nodes))
-        × Placed (classOf steps) (netIn (now file) (now tables) (now nodes)) (now flags) (now order) k
-        × Columns (netIn (now file) (now tables) (now nodes)) (now codes) (now sources) (length (now nodes)) ⌝ }
-    ensures { λ r. ⌜ PlacedOnce (classOf steps) (netIn (now (file .entry)) (now (tables .entry)) (now (nodes .entry))) (now (flags .entry)) (now (flags .exit)) (now (order .exit)) k r v ⌝ }
+// The same where v is a node.
+fn place_if(file: &[u8], net: &mut [u16], flags: &mut [u8], v: usize, k: usize) -> usize
+    ghost { Net }
+    requires { λ N. opened 𝓤 (now file) (now net) N (Sourced N × Placed inClock N (now flags) (orderOf (now net)) k) }
+    ensures { λ N r. ⌜ (netOf (now (file .entry)) (now (net .exit)) ≡ N) × Circuit (now (file .entry)) (now (net .exit))
+        × Placed inClock N (now (flags .exit)) (orderOf (now (net .exit))) r ⌝ }
 {
-    if 0 < flag_at(flags, v) {
-        return k;
+    if v < node_count(file, net) {
+        place(file, net, flags, v, k)
+    } else {
+        k
     }
-    let u = first_waiting(file, tables, nodes, steps, v, flags, codes, sources);
-    if u < nodes.len() {
-        return k;
+}
+
+// Tries the nodes that a hint proposes, in its order.
+fn follow(file: &[u8], net: &mut [u16], flags: &mut [u8], hint: &[u16]) -> usize
+    ghost { Net }
+    requires { λ N. opened 𝓤 (now file) (now net) N (Sourced N × Placed inClock N (now flags) (orderOf (now net)) 0) }
+    ensures { λ N r. ⌜ (netOf (now (file .entry)) (now (net .exit)) ≡ N) × Circuit (now (file .entry)) (now (net .exit))
+        × Placed inClock N (now (flags .exit)) (orderOf (now (net .exit))) r ⌝ }
+{
+    let n = node_count(file, net);
+    let mut k: usize = 0;
+    let mut i: usize = 0;
+    while i < n {
+        k = place_if(file, net, flags, wide(number_at(hint, i)), k);
+        i = i + 1;
     }
-    place_ready(file, tables, nodes, steps, v, flags, order, k)
+    k
 }
 
 // One pass over the nodes in file order.
-fn sweep(
-    file: &[u8],
-    tables: &[u16],
-    nodes: &[u16],
-    steps: Steps,
-    flags: &mut [u8],
-    order: &mut [u16],
-    start: usize,
-    codes: &[u8],
-    sources: &[u16],
-) -> usize
-    requires { ⌜ Found (now file) (now tables) (now nodes) × Sourced (netIn (now file) (now tables) (now nodes))
-        × Placed (classOf steps) (netIn (now file) (now tables) (now nodes)) (now flags) (now order) start
-        × Columns (netIn (now file) (now tables) (now nodes)) (now codes) (now sources) (length (now nodes)) ⌝ }
-    ensures { λ r. ⌜ PlacedPass (classOf steps) (netIn (now (file .entry)) (now (tables .entry)) (now (nodes .entry))) (now (flags .entry)) (now (flags .exit)) (now (order .exit)) start r (length (now (nodes .entry))) ⌝ }
+fn sweep(file: &[u8], net: &mut [u16], flags: &mut [u8], start: usize) -> usize
+    ghost { Net }
+    requires { λ N. opened 𝓤 (now file) (now net) N (Sourced N × Placed inClock N (now flags) (orderOf (now net)) start) }
+    ensures { λ N r. ⌜ (netOf (now (file .entry)) (now (net .exit)) ≡ N) × Circuit (now (file .entry)) (now (net .exit))
+        × PlacedPass inClock N (now (flags .entry)) (now (flags .exit)) (orderOf (now (net .exit))) start r (size N) ⌝ }
 {
+    let n = node_count(file, net);
     let mut k = start;
     let mut v: usize = 0;
-    while v < nodes.len() {
-        k = place(
-            file,
-            tables,
-            nodes,
-            steps,
-            v,
-            flags,
-            order,
-            k,
-            codes,
-            sources,
-        );
+    while v < n {
+        k = place(file, net, flags, v, k);
         v = v + 1;
     }
     k
 }
 
-// Passes until nothing more can be placed. After a good walk the first pass places nothing.
-fn settle(
-    file: &[u8],
-    tables: &[u16],
-    nodes: &[u16],
-    steps: Steps,
-    flags: &mut [u8],
-    order: &mut [u16],
-    start: usize,
-    codes: &[u8],
-    sources: &[u16],
-) -> usize
-    requires { ⌜ Found (now file) (now tables) (now nodes) × Sourced (netIn (now file) (now tables) (now nodes))
-        × Placed (classOf steps) (netIn (now file) (now tables) (now nodes)) (now flags) (now order) start
-        × Columns (netIn (now file) (now tables) (now nodes)) (now codes) (now sources) (length (now nodes)) ⌝ }
-    ensures { λ r. ⌜ Placed (classOf steps) (netIn (now (file .entry)) (now (tables .entry)) (now (nodes .entry))) (now (flags .exit)) (now (order .exit)) r
-        × Waiting (ready (classOf steps) (netIn (now (file .entry)) (now (tables .entry)) (now (nodes .entry)))) (now (flags .exit)) (length (now (nodes .entry))) ⌝ }
+// Passes until nothing more can be placed. After a good proposal the first pass places nothing.
+fn settle(file: &[u8], net: &mut [u16], flags: &mut [u8], start: usize) -> usize
+    ghost { Net }
+    requires { λ N. opened 𝓤 (now file) (now net) N (Sourced N × Placed inClock N (now flags) (orderOf (now net)) start) }
+    ensures { λ N r. ⌜ (netOf (now (file .entry)) (now (net .exit)) ≡ N) × Circuit (now (file .entry)) (now (net .exit))
+        × Placed inClock N (now (flags .exit)) (orderOf (now (net .exit))) r × Waiting (ready inClock N) (now (flags .exit)) (size N) ⌝ }
 {
     let mut k = start;
     loop {
-        let more = sweep(file, tables, nodes, steps, flags, order, k, codes, sources);
+        let more = sweep(file, net, flags, k);
         if more == k {
             return k;
         }
@@ -193,48 +142,14 @@ fn settle(
     }
 }
 
-// Places all nodes that can be placed and gives their number. The flags are 0 at first. What the hint holds afterwards is not said: it is the order in which a
-// depth-first walk left the nodes that read something that counts, sources before readers, for whoever can use an order without trusting it.
-pub fn order_with_hint(
-    file: &[u8],
-    tables: &[u16],
-    nodes: &[u16],
-    steps: Steps,
-    flags: &mut [u8],
-    order: &mut [u16],
-    hint: &mut [u16],
-    codes: &[u8],
-    sources: &[u16],
-) -> usize
-    requires { ⌜ Found (now file) (now tables) (now nodes) × Sourced (netIn (now file) (now tables) (now nodes))
-        × Placed (classOf steps) (netIn (now file) (now tables) (now nodes)) (now flags) (now order) 0
-        × Columns (netIn (now file) (now tables) (now nodes)) (now codes) (now sources) (length (now nodes)) ⌝ }
-    ensures { λ r. ⌜ Placed (classOf steps) (netIn (now (file .entry)) (now (tables .entry)) (now (nodes .entry))) (now (flags .exit)) (now (order .exit)) r
-        × Waiting (ready (classOf steps) (netIn (now (file .entry)) (now (tables .entry)) (now (nodes .entry)))) (now (flags .exit)) (length (now (nodes .entry))) ⌝ }
+// Puts the nodes into an order, in the circuit, as far as they can be, and gives how many. A hint saves passes.
+pub fn order_nodes(file: &[u8], net: &mut [u16], hint: &[u16]) -> usize
+    ghost { Net }
+    requires { λ N. opened 𝓤 (now file) (now net) N (Sourced N) }
+    ensures { λ N r. ⌜ (netOf (now (file .entry)) (now (net .exit)) ≡ N) × Circuit (now (file .entry)) (now (net .exit))
+        × Outcome inClock N (orderOf (now (net .exit))) r ⌝ }
 {
-    let placed = walk_all(
-        file,
-        tables,
-        nodes,
-        steps,
-        flags,
-        order,
-        hint,
-        codes,
-        sources,
-    );
-    if placed == nodes.len() {
-        return placed;
-    }
-    settle(
-        file,
-        tables,
-        nodes,
-        steps,
-        flags,
-        order,
-        placed,
-        codes,
-        sources,
-    )
+    let mut flags = [0u8; 1024];
+    let placed = follow(file, net, &mut flags, hint);
+    settle(file, net, &mut flags, placed)
 }

@@ -1,28 +1,27 @@
 -- Entries placed one after the other. Assumes nothing.
 use mathlib.Core.Path.{_≡_, refl, sym, ap, ap₂, subst, _∙_}
-use mathlib.Core.Logic.{_⊎_, inl, inr, ⊎-elim}
+use mathlib.Core.Logic.{_⊎_, ⊎-elim}
 use mathlib.Core.Bool.{Bool, true, false, cond, not, _&&_, false≢true}
 use mathlib.Core.List.{List, [], _∷_, _++_, map, append-nil, append-assoc}
 use Prim.Native.Nat.{ℕ, zero, suc, _+_, _-_, _*_, _/_, _%_, _≤_, _<_, zero-le, suc-le-suc}
-use native.Mathlib.Nat.{zero-add, not-suc-le-zero, le-refl}
+use native.Mathlib.Nat.{not-suc-le-zero, le-refl}
 use native.Mathlib.Omega.{arith}
 use lib.ListN.{length, getD, set, length-append, length-map, List·getD-append}
 use lib.Seq.{getD-append-add, getD-set-same, getD-set-other, getD-append-seam}
 use lib.Dec.{eqb, ltb}
 use borrow.Author.Tests.{eq-eqb, ne-eqb, lt-ltb, le-ltb}
 use Rattle.lists.specs.Lists.{below, concatMap, only, one, has, addNew, distinctFrom, distinct}
-use Rattle.lists.specs.BelowLaws.{true-or-false, lt-or-le, eqb-self, eqb-true, getD-map-lt, lt-suc-split}
-use Rattle.lists.specs.ListsLaws.{concatMap-cong, getD-has}
+use Rattle.lists.specs.BelowLaws.{true-or-false, lt-or-le, getD-map-lt, lt-suc-split}
+use Rattle.lists.specs.ListsLaws.{getD-has}
 use Rattle.netlist.specs.declared.Element.{Element}
 use Rattle.netlist.specs.declared.Element.the-variants.{Input, Output, Register, Async, Clocked, Gate}
-use Rattle.netlist.specs.declared.Node.{Node}
-use Rattle.netlist.specs.Net.{Net, size, nodeAt, elementAt, source, operands, isRegister, isMemory}
+use Rattle.netlist.specs.Net.{Net, size, elementAt, source, operands, isRegister, isMemory}
 use Rattle.netlist.specs.NodeLaws.{few-operands}
 use Rattle.behaviour.specs.Run.{zeroWord}
 use Rattle.retiming.specs.Rewrite.{Place, Entry, Reg, root, memoryAt, stays, copyOn, copiesAt, copiesOf, copies, entriesOf, entryPlaces, timing, timingBy}
 use Rattle.retiming.specs.Layout.{noPlace}
 use Rattle.lists.specs.Threes.{concat-next, concat-longer, inRow, row-of-three, in-threes}
-use Rattle.wiring.specs.Wiring.{wiresTo, sourceOf, wireAt, Wired, Unwired, WiredTo, Copied}
+use Rattle.wiring.specs.Wiring.{wiresTo, wireAt, WiredTo, Copied}
 use Rattle.wiring.specs.WiringLaws.{wires-few}
 use Rattle.wiring.specs.Links.{From}
 use Rattle.plan.specs.Entries.{Finds, Stored, Placing, Adds, wantedOf, Wants, AddsAll, entriesBefore, Firsts, AllPlaced}
@@ -320,12 +319,6 @@ pub rom-placed : (N : Net) {u k count r : ℕ} {e : Element} {ends copied owners
     → count ≤ 1024 → Placing owners words (entriesBefore N u) count → AddsAll u count k r ends copied owners words owners′ words′ → Placing owners′ words′ (entriesBefore N (u + 1)) r
 rom-placed N {u} {k} {ends = ends} {copied = copied} h q m w z o t a =
     placing-as refl refl (entries-rom N u q m (w u h ∙ ap (wantedOf ends copied u) (sym z))) (a .adds (entriesBefore N u) (t .exact o .0) t)
-
--- ---- as the code reads a node
-
-pub element-of : (N : Net) (u : ℕ) {y : Node} → y ≡ nodeAt N u → y .element ≡ elementAt N u
-unfolding elementAt
-element-of N u e = ap (λ (y : Node). y .element) e
 
 pub firsts-as : (N : Net) {firsts firsts′ : List ℕ} {u : ℕ} → firsts′ ≡ firsts → Firsts N firsts u → Firsts N firsts′ u
 firsts-as N {u = u} e t = subst (λ (l : List ℕ). Firsts N l u) (sym e) t

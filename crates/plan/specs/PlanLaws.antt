@@ -1,12 +1,12 @@
 -- From the work areas of each step to the plan. Assumes nothing.
-use mathlib.Core.Path.{_≡_, refl, sym, ap, ap₂, subst, _∙_}
+use mathlib.Core.Path.{_≡_, sym, ap, ap₂, subst, _∙_}
 use mathlib.Core.Logic.{⊎-elim}
 use mathlib.Core.Bool.{Bool, true, false, cond}
-use mathlib.Core.List.{List, [], _∷_, _++_}
-use Prim.Native.Nat.{ℕ, zero, suc, _+_, _-_, _*_, _/_, _%_, _≤_, _<_, zero-le}
+use mathlib.Core.List.{List}
+use Prim.Native.Nat.{ℕ, zero, _+_, _-_, _*_, _/_, _%_, _≤_, _<_, zero-le}
 use native.Mathlib.Nat.{not-suc-le-zero}
 use native.Mathlib.Omega.{arith}
-use lib.ListN.{length, getD, replicate, length-append, length-replicate, getD-replicate, List·getD-append}
+use lib.ListN.{length, getD, replicate, length-append, getD-replicate, List·getD-append}
 use lib.Seq.{getD-append-add}
 use lib.Dec.{ltb}
 use borrow.Author.Tests.{lt-ltb, le-ltb}
@@ -16,15 +16,15 @@ use Rattle.netlist.specs.NodeLaws.{few-operands}
 use Rattle.behaviour.specs.Run.{zeroWord}
 use Rattle.retiming.specs.Leads.{lead}
 use Rattle.retiming.specs.Rewrite.{Place, Entry, Reg, root, memoryAt, countOn, copyOn, wordFrom, resetWord, entryPlaces, regPlaces, places, numberOf, along, timing, timingBy}
-use Rattle.retiming.specs.Layout.{noPlace, Stands, Sound, places-sound}
+use Rattle.retiming.specs.Layout.{noPlace, Sound, places-sound}
 use Rattle.first_clocks.specs.Wanted.{OfNodes, Taken}
-use Rattle.wiring.specs.Wiring.{Ready, countFrom, count-from, wiresTo, readerOf, sourceOf, wireAt, lastClock, Wired, WiredTo, Copied}
+use Rattle.wiring.specs.Wiring.{Ready, countFrom, count-from, wiresTo, sourceOf, wireAt, lastClock, Wired, WiredTo, Copied}
 use Rattle.wiring.specs.WiringLaws.{wire-inside}
-use Rattle.plan.specs.Entries.{Stored, Wants, AllPlaced}
+use Rattle.plan.specs.Entries.{Wants, AllPlaced}
 use Rattle.plan.specs.EntriesLaws.{all-wanted}
 use Rattle.plan.specs.Registers.{entryCount, entryAt, wiresBefore, Planning, RegHeld, HeadHeld, Laid, AllLaid}
 use Rattle.plan.specs.RegistersRow.{regs-in-row, wires-all, reader-stands}
-use Rattle.plan.specs.Plan.{RegAt, Planned, PlanMade}
+use Rattle.plan.specs.Plan.{RegAt, PlanMade}
 
 -- a reset word is a word of the run
 reset-is : (N : Net) (x p j : ℕ) → resetWord N (timing N) (zeroWord N) x p j ≡ zeroWord N (j + lead N x) (source N x p)
@@ -78,11 +78,10 @@ module _ {N : Net} {leads roots passes ends froms clocks : List ℕ} (ready : Re
     pub entries-are : entries ≡ entryCount N
     entries-are = placed .exact few .0
 
-    pub planning : {copied : List ℕ} → length clocks ≡ 3072 → Taken N clocks froms (replicate 3072 0) copied → Planning N leads roots passes ends froms copied firsts
+    pub planning : {copied : List ℕ} → length clocks ≡ 3072 → Taken N clocks froms (replicate 3072 0) copied → Planning N leads roots passes ends copied firsts
     planning l t = record {
       ready = ready;
       ends-in = λ k h g. w .wires k h g .end;
-      froms-in = λ k h g. w .wires k h g .from;
       gaps = λ k h g. w .gaps k h g .end;
       copies-in = copies-made l t;
       firsts-in = placed .exact few .2;

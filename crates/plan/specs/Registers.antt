@@ -51,10 +51,9 @@ module _ (N : Net) where
   wiresBefore m = concatMap (λ j. wireOf (entryAt (j / 3)) (j % 3)) (below m)
 
   -- what is at hand once the entries are placed
-  pub record Planning (leads roots passes ends froms copied firsts : List ℕ) : Type 0 where
+  pub record Planning (leads roots passes ends copied firsts : List ℕ) : Type 0 where
     pub ready : Ready N leads roots passes
     pub ends-in : (k : ℕ) → k < 3 * size N → wireAt N k ≡ true → getD ends k 0 ≡ root N (sourceOf N k)
-    pub froms-in : (k : ℕ) → k < 3 * size N → wireAt N k ≡ true → getD froms k 0 ≡ sourceOf N k
     pub gaps : (k : ℕ) → k < 3 * size N → wireAt N k ≡ false → getD ends k 0 ≡ 65535
     pub copies-in : Copied N copied
     pub firsts-in : Firsts N firsts (size N)

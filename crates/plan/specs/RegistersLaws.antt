@@ -26,7 +26,7 @@ use Rattle.plan.specs.RegistersRow.{wires-next, reg-number, entry-number
 
 -- ---- one wire more
 
-module _ {N : Net} {leads roots passes ends froms copied firsts : List ℕ} (t : Planning N leads roots passes ends froms copied firsts) {owners words late sources : List ℕ} {m total : ℕ}
+module _ {N : Net} {leads roots passes ends copied firsts : List ℕ} (t : Planning N leads roots passes ends copied firsts) {owners words late sources : List ℕ} {m total : ℕ}
     (d : Laid N owners words late sources m total) (h : m < 3 * entryCount N) where
   -- its reader, and its number among the old wires
   abbrev i : ℕ
@@ -104,9 +104,6 @@ module _ {N : Net} {leads roots passes ends froms copied firsts : List ℕ} (t :
 
       operand-here : p < operands (elementAt N x)
       operand-here = ltb-true p (operands (elementAt N x)) (sym wire-test ∙ a-wire)
-
-      pub source-is : getD froms k 0 ≡ source N x p
-      source-is = t .froms-in k wire-within a-wire ∙ source-here
 
       pub source-inside : source N x p < size N
       unfolding Sourced

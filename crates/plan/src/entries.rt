@@ -1,16 +1,15 @@
 // The nodes of the rewritten netlist that are no registers, in the file's order: an old node that is no register once, a ROM once for each different reset word.
 use areas::number_at;
 use areas::put_number;
-use columns::kinds::code_of;
-use columns::kinds::is_kind;
-use index::wide;
+use circuit::node_count;
+use circuit::register;
+use circuit::wide;
 use wiring::memory_bit;
 ghost use mathlib.Core.Path.{_≡_};
 ghost use Prim.Native.Nat.{_+_, _<_, _≤_};
 ghost use lib.ListN.{length, set};
-ghost use Rattle.netlist.specs.ScanLaws.{Found};
-ghost use Rattle.netlist.specs.File.{netIn};
-ghost use Rattle.columns.specs.Columns.{Columns};
+ghost use Rattle.netlist.specs.Net.{Net, size};
+ghost use Rattle.circuit.specs.Opened.{opened};
 ghost use Rattle.plan.specs.Entries.{Finds, Placing, Adds, Wants, AddsAll, entriesBefore, AllPlaced};
 ghost use Rattle.wiring.specs.Links.{Chained, RomsLinked};
 
@@ -88,8 +87,7 @@ fn add_entry(u: usize, word: u16, count: usize, owners: &mut [u16], words: &mut 
 // Adds the entries of node u.
 fn place(
     file: &[u8],
-    tables: &[u16],
-    nodes: &[u16],
+    net: &[u16],
     ends: &[u16],
     copied: &[u16],
     heads: &[u16],
@@ -98,23 +96,19 @@ fn place(
     count: usize,
     owners: &mut [u16],
     words: &mut [u16],
-    codes: &[u8],
-    reads: &[u16],
 ) -> usize
-    requires { ⌜ Found (now file) (now tables) (now nodes) × (u < length (now nodes)) × Columns (netIn (now file) (now tables) (now nodes)) (now codes) (now reads) (length (now nodes))
-        × (count ≤ 1024) × (1024 ≤ length (now owners)) × (1024 ≤ length (now words))
-        × Wants (netIn (now file) (now tables) (now nodes)) (now ends) (now copied) × RomsLinked (netIn (now file) (now tables) (now nodes)) (now ends) (now heads) (now links)
-        × Placing (now owners) (now words) (entriesBefore (netIn (now file) (now tables) (now nodes)) u) count ⌝ }
-    ensures { λ r. ⌜ Placing (now (owners .exit)) (now (words .exit)) (entriesBefore (netIn (now (file .entry)) (now (tables .entry)) (now (nodes .entry))) (u + 1)) r × (r ≤ 4096) ⌝ }
+    ghost { Net }
+    requires { λ N. opened 𝓤 (now file) (now net) N ((u < size N) × (count ≤ 1024) × (1024 ≤ length (now owners)) × (1024 ≤ length (now words))
+        × Wants N (now ends) (now copied) × RomsLinked N (now ends) (now heads) (now links) × Placing (now owners) (now words) (entriesBefore N u) count) }
+    ensures { λ N r. ⌜ Placing (now (owners .exit)) (now (words .exit)) (entriesBefore N (u + 1)) r × (r ≤ 4096) ⌝ }
 {
-    let code = code_of(codes, u);
-    if memory_bit(code) == 1 {
+    if memory_bit(file, net, u) == 1 {
         let head = wide(number_at(heads, u));
         return add_copies(
             ends,
             copied,
             links,
-            3 * nodes.len(),
+            3 * node_count(file, net),
             u as u16,
             head,
             count,
@@ -122,7 +116,7 @@ fn place(
             words,
         );
     }
-    if is_kind(code, 2) == 1 {
+    if register(file, net, u) == 1 {
         return count;
     }
     add_entry(u, 0, count, owners, words)
@@ -131,8 +125,7 @@ fn place(
 // Adds the entries of all nodes, and keeps where those of each begin. It gives up where there are more than 1,024.
 pub fn place_entries(
     file: &[u8],
-    tables: &[u16],
-    nodes: &[u16],
+    net: &[u16],
     ends: &[u16],
     copied: &[u16],
     heads: &[u16],
@@ -140,15 +133,13 @@ pub fn place_entries(
     firsts: &mut [u16],
     owners: &mut [u16],
     words: &mut [u16],
-    codes: &[u8],
-    reads: &[u16],
 ) -> usize
-    requires { ⌜ Found (now file) (now tables) (now nodes) × Columns (netIn (now file) (now tables) (now nodes)) (now codes) (now reads) (length (now nodes))
-        × (length (now firsts) ≡ 1024) × (1024 ≤ length (now owners)) × (1024 ≤ length (now words))
-        × Wants (netIn (now file) (now tables) (now nodes)) (now ends) (now copied) × RomsLinked (netIn (now file) (now tables) (now nodes)) (now ends) (now heads) (now links) ⌝ }
-    ensures { λ r. ⌜ AllPlaced (netIn (now (file .entry)) (now (tables .entry)) (now (nodes .entry))) (now (owners .exit)) (now (words .exit)) (now (firsts .exit)) r ⌝ }
+    ghost { Net }
+    requires { λ N. opened 𝓤 (now file) (now net) N ((length (now firsts) ≡ 1024) × (1024 ≤ length (now owners)) × (1024 ≤ length (now words))
+        × Wants N (now ends) (now copied) × RomsLinked N (now ends) (now heads) (now links)) }
+    ensures { λ N r. ⌜ AllPlaced N (now (owners .exit)) (now (words .exit)) (now (firsts .exit)) r ⌝ }
 {
-    let n = nodes.len();
+    let n = node_count(file, net);
     let mut count: usize = 0;
     let mut u: usize = 0;
     while u < n {
@@ -158,8 +149,7 @@ pub fn place_entries(
         put_number(firsts, u, count as u16);
         count = place(
             file,
-            tables,
-            nodes,
+            net,
             ends,
             copied,
             heads,
@@ -168,8 +158,6 @@ pub fn place_entries(
             count,
             owners,
             words,
-            codes,
-            reads,
         );
         u = u + 1;
     }

@@ -2,17 +2,17 @@
 use super::entries::find_from;
 use areas::number_at;
 use areas::put_number;
-use index::wide;
+use circuit::source_of;
+use circuit::wide;
 use wiring::count_on;
 ghost use mathlib.Core.Path.{_≡_};
 ghost use Prim.Native.Nat.{_+_, _*_, _<_, _≤_};
-ghost use lib.ListN.{length, getD};
-ghost use Rattle.netlist.specs.ScanLaws.{Found};
-ghost use Rattle.netlist.specs.File.{netIn};
-ghost use Rattle.columns.specs.Columns.{Columns};
+ghost use lib.ListN.{length};
+ghost use Rattle.netlist.specs.Net.{Net};
+ghost use Rattle.circuit.specs.Opened.{opened};
 ghost use Rattle.plan.specs.Registers.{behind, PutsRegisters, entryCount, Planning, Laid, AllLaid};
 
-// PutsRegisters the registers of a wire, from its source on.
+// Puts the registers of a wire, from its source on.
 fn put_registers(
     s: u16,
     from: u16,
@@ -53,8 +53,7 @@ fn last_of(from: u16, start: usize, count: usize) -> u16
 // Lays wire m, the one to operand m % 3 of the entry m / 3, where there is one. In the old netlist its number is k.
 fn lay_wire(
     file: &[u8],
-    tables: &[u16],
-    nodes: &[u16],
+    net: &[u16],
     leads: &[u16],
     roots: &[u16],
     passes: &[u16],
@@ -68,17 +67,13 @@ fn lay_wire(
     words: &[u16],
     late: &mut [u16],
     sources: &mut [u16],
-    codes: &[u8],
-    reads: &[u16],
 ) -> usize
-    requires { ⌜ Found (now file) (now tables) (now nodes)
-        × Planning (netIn (now file) (now tables) (now nodes)) (now leads) (now roots) (now passes) (now ends) (now reads) (now copied) (now firsts)
-        × Columns (netIn (now file) (now tables) (now nodes)) (now codes) (now reads) (length (now nodes))
-        × (entries ≡ entryCount (netIn (now file) (now tables) (now nodes))) × (m < 3 * entries) × (total ≤ 1024)
+    ghost { Net }
+    requires { λ N. opened 𝓤 (now file) (now net) N (Planning N (now leads) (now roots) (now passes) (now ends) (now copied) (now firsts)
+        × (entries ≡ entryCount N) × (m < 3 * entries) × (total ≤ 1024)
         × (length (now owners) ≡ 1024) × (length (now late) ≡ 1024) × (length (now sources) ≡ 3072)
-        × Laid (netIn (now file) (now tables) (now nodes)) (now owners) (now words) (now late) (now sources) m total ⌝ }
-    ensures { λ r. ⌜ Laid (netIn (now (file .entry)) (now (tables .entry)) (now (nodes .entry))) (now (owners .exit)) (now (words .entry)) (now (late .exit)) (now (sources .exit)) (m + 1) r
-        × (r ≤ 3073) ⌝ }
+        × Laid N (now owners) (now words) (now late) (now sources) m total) }
+    ensures { λ N r. ⌜ Laid N (now (owners .exit)) (now (words .entry)) (now (late .exit)) (now (sources .exit)) (m + 1) r × (r ≤ 3073) ⌝ }
 {
     let x = wide(number_at(owners, m / 3));
     let k = 3 * x + m % 3;
@@ -86,24 +81,13 @@ fn lay_wire(
     if end == 65535 {
         return total;
     }
-    let s = number_at(reads, k);
+    let s = source_of(file, net, x, m % 3);
     let c = number_at(copied, k);
     let first = wide(number_at(firsts, wide(end)));
     let from = find_from(words, c, first, entries) as u16;
-    let count = count_on(
-        file,
-        tables,
-        nodes,
-        leads,
-        roots,
-        passes,
-        x,
-        wide(s),
-        codes,
-        reads,
-    );
+    let count = count_on(file, net, leads, roots, passes, x, s);
     let lead = wide(number_at(leads, x));
-    put_registers(s, from, lead, count, total, owners, late, sources);
+    put_registers(s as u16, from, lead, count, total, owners, late, sources);
     put_number(sources, m, last_of(from, total, count));
     total + count
 }
@@ -111,8 +95,7 @@ fn lay_wire(
 // Lays all wires; gives the number of nodes. It gives up where there are more than 1,024.
 pub fn lay_wires(
     file: &[u8],
-    tables: &[u16],
-    nodes: &[u16],
+    net: &[u16],
     leads: &[u16],
     roots: &[u16],
     passes: &[u16],
@@ -124,16 +107,12 @@ pub fn lay_wires(
     words: &[u16],
     late: &mut [u16],
     sources: &mut [u16],
-    codes: &[u8],
-    reads: &[u16],
 ) -> usize
-    requires { ⌜ Found (now file) (now tables) (now nodes)
-        × Planning (netIn (now file) (now tables) (now nodes)) (now leads) (now roots) (now passes) (now ends) (now reads) (now copied) (now firsts)
-        × Columns (netIn (now file) (now tables) (now nodes)) (now codes) (now reads) (length (now nodes))
-        × (entries ≡ entryCount (netIn (now file) (now tables) (now nodes)))
-        × (length (now owners) ≡ 1024) × (length (now late) ≡ 1024) × (length (now sources) ≡ 3072)
-        × Laid (netIn (now file) (now tables) (now nodes)) (now owners) (now words) (now late) (now sources) 0 entries ⌝ }
-    ensures { λ r. ⌜ AllLaid (netIn (now (file .entry)) (now (tables .entry)) (now (nodes .entry))) (now (owners .exit)) (now (words .entry)) (now (late .exit)) (now (sources .exit)) r ⌝ }
+    ghost { Net }
+    requires { λ N. opened 𝓤 (now file) (now net) N (Planning N (now leads) (now roots) (now passes) (now ends) (now copied) (now firsts)
+        × (entries ≡ entryCount N) × (length (now owners) ≡ 1024) × (length (now late) ≡ 1024) × (length (now sources) ≡ 3072)
+        × Laid N (now owners) (now words) (now late) (now sources) 0 entries) }
+    ensures { λ N r. ⌜ AllLaid N (now (owners .exit)) (now (words .entry)) (now (late .exit)) (now (sources .exit)) r ⌝ }
 {
     let mut total = entries;
     let mut m: usize = 0;
@@ -143,8 +122,7 @@ pub fn lay_wires(
         }
         total = lay_wire(
             file,
-            tables,
-            nodes,
+            net,
             leads,
             roots,
             passes,
@@ -158,8 +136,6 @@ pub fn lay_wires(
             words,
             late,
             sources,
-            codes,
-            reads,
         );
         m = m + 1;
     }

@@ -4,29 +4,29 @@ use mathlib.Core.Bool.{Bool, true, false}
 use mathlib.Core.List.{List, [], _∷_}
 use Prim.Native.Nat.{ℕ, _+_, _*_, _≤_, _<_}
 use native.Mathlib.Omega.{arith}
-use lib.ListN.{length, getD, take, drop}
+use lib.ListN.{length, getD, drop}
 use lib.Seq.{getD-take, getD-drop}
 use lib.Dec.{ltb, eqb}
-use borrow.Author.Tests.{ltb-true, eq-eqb, ne-eqb, eqb-true, eqb-false}
+use borrow.Author.Tests.{ltb-true, eqb-true, eqb-false}
 use Rattle.lists.specs.Paths.{pick, arms, arms-eq, on-eq, off-eq}
 use Rattle.words.specs.Words.{word}
 use Rattle.words.specs.declared.Op.{Op}
 use Rattle.words.specs.declared.Op.the-variants.{Constant, Part}
-use Rattle.netlist.specs.Net.{rom, operands, isOutput}
-use Rattle.netlist.specs.Field.{lengthAt, fieldEnd, content}
-use Rattle.netlist.specs.NodeField.{gateLength, plainOp, firstSource, sourcesFrom, nodeRead, nodeWith}
+use Rattle.netlist.specs.Net.{rom, operands}
+use Rattle.netlist.specs.Field.{lengthAt, content}
+use Rattle.netlist.specs.NodeField.{gateLength, firstSource, sourcesFrom, nodeRead, nodeWith}
 use Rattle.netlist.specs.NodeLaws.{node-facts}
-use Rattle.netlist.specs.TableField.{tableRead}
-use Rattle.netlist.specs.TableLaws.{table-facts, content-length}
-use Rattle.netlist.specs.ScanLaws.{TableAt, NodeAt}
-use Rattle.netlist.specs.File.{tableIn, nodeIn}
+use Rattle.netlist.specs.TableLaws.{content-length}
+use Rattle.netlist.specs.ScanLaws.{NodeAt}
+use Rattle.netlist.specs.File.{nodeIn}
 use Rattle.netlist.specs.declared.Element.{Element}
-use Rattle.netlist.specs.declared.Element.the-variants.{Input, Output, Register, Async, Clocked, Gate}
+use Rattle.netlist.specs.declared.Element.the-variants.{Register, Async, Clocked, Gate}
 use Rattle.netlist.specs.declared.ElementRead.{ElementRead}
 use Rattle.netlist.specs.declared.Node.{Node}
 use Rattle.nodes.specs.Room.{room}
-use Rattle.nodes.specs.Code.{codeOf, gate-code, kind-code}
-use Rattle.nodes.specs.Unchecked.{opUnchecked, elementUnchecked, is-input, is-output, is-register, is-async, is-clocked, is-gate, unchecked, Lengths, lengths}
+use Rattle.circuit.specs.Code.{codeOf}
+use Rattle.nodes.specs.Code.{op-number}
+use Rattle.nodes.specs.Unchecked.{opUnchecked, elementUnchecked, is-register, is-async, is-clocked, is-gate, unchecked, Lengths, lengths}
 
 module _ (s : List ℕ) (at : ℕ) where
   pub byte-in : (i : ℕ) → i < lengthAt s at → getD (content s at) i 0 ≡ getD s (at + 3 + i) 0
@@ -113,12 +113,6 @@ module _ (s : List ℕ) (at : ℕ) where
       pub clocked-long : k ≡ 4 → lengthAt s at ≡ 7
       clocked-long q = sym size-in ∙ shape .clocked (kind-is ∙ q)
 
-    pub input-at : getD s (at + 3) 0 ≡ 0 → Input ≡ nodeIn s at .element
-    input-at e = is-input (content s at) (kind-in ∙ e) refl ∙ element-in
-
-    pub output-at : getD s (at + 3) 0 ≡ 1 → Output ≡ nodeIn s at .element
-    output-at e = is-output (content s at) (kind-in ∙ e) refl ∙ element-in
-
     pub register-at : getD s (at + 3) 0 ≡ 2 → (w : ℕ) → w ≡ word s (at + 7) → Register w ≡ nodeIn s at .element
     register-at e w q =
         let l = register-long 2 e refl in
@@ -157,9 +151,6 @@ module _ (s : List ℕ) (at : ℕ) where
       pub operation-in : getD (content s at) 2 0 ≡ getD s (at + 5) 0
       operation-in = byte-is 2 (at + 5) (omega arith) (omega (arith, gate-long))
 
-      pub operation-few : getD s (at + 5) 0 ≤ 11
-      operation-few = omega (arith, operation-in, shape .operation (kind-in ∙ e))
-
       pub constant-long : getD s (at + 5) 0 ≡ 0 → lengthAt s at ≡ 5
       unfolding pick
       constant-long q = gate-long ∙ ap gateLength (operation-in ∙ q)
@@ -178,60 +169,57 @@ module _ (s : List ℕ) (at : ℕ) where
           let l = part-long q in
           off-eq _ _ (getD (content s at) 2 0) 0 (λ d. omega (arith, operation-in)) (on-eq _ _ (getD (content s at) 2 0) 10 (operation-in ∙ q) (ap Part (sym (byte-is 5 (at + 8) (omega arith) (omega arith)))))
 
-      pub plain-at : (getD s (at + 5) 0 ≡ 0 → ⊥) → (getD s (at + 5) 0 ≡ 10 → ⊥) → (o : Op) → o ≡ plainOp (getD s (at + 5) 0) → o ≡ opUnchecked (content s at)
-      plain-at a b o r =
-          off-eq _ _ (getD (content s at) 2 0) 0 (λ d. a (sym operation-in ∙ d)) (off-eq _ _ (getD (content s at) 2 0) 10 (λ d. b (sym operation-in ∙ d)) (r ∙ ap plainOp (sym operation-in)))
-
     -- ---- the code
 
     -- where the code's last part stands, from the content's start: a gate's operation, or the kind
-    pub code-place : (i : ℕ) → i ≡ pick (eqb (getD s (at + 3) 0) 5) 2 0 → at + 3 + i < length s
-    code-place i q =
+    pub code-place : (g : ℕ) → g ≡ pick (eqb (getD s (at + 3) 0) 5) 1 0 → at + 3 + 2 * g < length s
+    code-place g q =
         let l = long in
         let h = p .inside in
-        subst (λ (k : ℕ). at + 3 + k < length s) (sym q) (arms-eq (λ (k : ℕ). at + 3 + k < length s) _ _ (getD s (at + 3) 0) 5 (λ e. omega (arith, gate-long e)) (λ _. omega arith))
+        subst (λ (k : ℕ). at + 3 + 2 * k < length s) (sym q) (arms-eq (λ (k : ℕ). at + 3 + 2 * k < length s) _ _ (getD s (at + 3) 0) 5 (λ e. omega (arith, gate-long e)) (λ _. omega arith))
 
-    pub code-in : (b i : ℕ) → b ≡ pick (eqb (getD s (at + 3) 0) 5) 5 0 → i ≡ pick (eqb (getD s (at + 3) 0) 5) 2 0 → b + getD s (at + 3 + i) 0 ≡ codeOf (nodeIn s at .element)
-    unfolding pick
-    code-in b i q r = ap₂ (λ (x y : ℕ). x + getD s (at + 3 + y) 0) q r ∙ by (eqb (getD s (at + 3) 0) 5) refl
+    gate-told : getD s (at + 3) 0 ≡ 5 → 8 + getD s (at + 5) 0 ≡ codeOf (nodeIn s at .element)
+    gate-told g =
+        ap (8 +_) (sym (operation-in g) ∙ sym (op-number (content s at) (shape .operation (kind-in ∙ g)))) ∙ ap codeOf (gate-at g (opUnchecked (content s at)) refl)
+
+    kind-told : (getD s (at + 3) 0 ≡ 5 → ⊥) → getD s (at + 3) 0 ≡ codeOf (nodeIn s at .element)
+    kind-told n = sym kind-in ∙ told (content s at) (λ e. n (sym kind-in ∙ e)) (shape .few) ∙ ap codeOf element-in
       where
-        by : (t : Bool) → eqb (getD s (at + 3) 0) 5 ≡ t → pick t 5 0 + getD s (at + 3 + pick t 2 0) 0 ≡ codeOf (nodeIn s at .element)
+        told : (c : List ℕ) → (getD c 0 0 ≡ 5 → ⊥) → getD c 0 0 ≤ 5 → getD c 0 0 ≡ codeOf (elementUnchecked c)
+        told c h l =
+            arms-eq P _ _ k 0 (λ e. e) (λ a. arms-eq P _ _ k 1 (λ e. e) (λ b. arms-eq P _ _ k 2 (λ e. e) (λ d.
+            arms-eq P _ _ k 3 (λ e. e) (λ f. arms-eq P _ _ k 4 (λ e. e) (λ g. absurd (h (omega arith)))))))
+          where
+            k : ℕ
+            k = getD c 0 0
+
+            P : Element → Type 0
+            P x = k ≡ codeOf x
+
+    pub code-in : (g : ℕ) → g ≡ pick (eqb (getD s (at + 3) 0) 5) 1 0 → 8 * g + getD s (at + 3 + 2 * g) 0 ≡ codeOf (nodeIn s at .element)
+    unfolding pick
+    code-in g q = ap (λ (x : ℕ). 8 * x + getD s (at + 3 + 2 * x) 0) q ∙ by (eqb (getD s (at + 3) 0) 5) refl
+      where
+        by : (t : Bool) → eqb (getD s (at + 3) 0) 5 ≡ t → 8 * pick t 1 0 + getD s (at + 3 + 2 * pick t 1 0) 0 ≡ codeOf (nodeIn s at .element)
         by true e =
-            let g = eqb-true (getD s (at + 3) 0) 5 e in
             let j : at + 3 + 2 ≡ at + 5 = omega arith in
-            ap (λ (k : ℕ). 5 + getD s k 0) j ∙ ap (5 +_) (sym (operation-in g)) ∙ gate-code (content s at) (kind-in ∙ g) (shape .operation (kind-in ∙ g)) ∙ ap codeOf element-in
+            ap (λ (k : ℕ). 8 + getD s k 0) j ∙ gate-told (eqb-true (getD s (at + 3) 0) 5 e)
         by false e =
-            let n = eqb-false (getD s (at + 3) 0) 5 e in
             let j : 0 + getD s (at + 3 + 0) 0 ≡ getD s (at + 3 + 0) 0 = omega arith in
             let m : at + 3 + 0 ≡ at + 3 = omega arith in
-            let k = shape .few in
-            j ∙ ap (λ (k : ℕ). getD s k 0) m ∙ sym kind-in ∙ kind-code (content s at) (omega (arith, kind-in)) ∙ ap codeOf element-in
+            j ∙ ap (λ (k : ℕ). getD s k 0) m ∙ kind-told (eqb-false (getD s (at + 3) 0) 5 e)
 
-    -- ---- an output port is told by its kind
-
-    pub output-told : eqb (getD s (at + 3) 0) 1 ≡ isOutput (nodeIn s at .element)
-    output-told = ap (λ (k : ℕ). eqb k 1) (sym kind-in) ∙ told (content s at) ∙ ap isOutput element-in
+    -- the bytes that a code tells
+    pub kind-by : (k : ℕ) → k < 5 → k ≡ codeOf (nodeIn s at .element) → getD s (at + 3) 0 ≡ k
+    kind-by k h q = by (eqb (getD s (at + 3) 0) 5) refl
       where
-        told : (c : List ℕ) → eqb (getD c 0 0) 1 ≡ isOutput (elementUnchecked c)
-        told c =
-            arms-eq P _ _ (getD c 0 0) 0 (λ e. ne-eqb (getD c 0 0) 1 (λ d. omega arith)) (λ _.
-            arms-eq P _ _ (getD c 0 0) 1 (λ e. eq-eqb (getD c 0 0) 1 e) (λ d.
-            let no : eqb (getD c 0 0) 1 ≡ false = ne-eqb (getD c 0 0) 1 d in
-            arms P _ _ _ (λ _. no) (λ _. arms P _ _ _ (λ _. no) (λ _. arms P _ _ _ (λ _. no) (λ _. no)))))
-          where
-            P : Element → Type 0
-            P x = eqb (getD c 0 0) 1 ≡ isOutput x
+        by : (t : Bool) → eqb (getD s (at + 3) 0) 5 ≡ t → getD s (at + 3) 0 ≡ k
+        by true e = absurd (omega (arith, q, gate-told (eqb-true (getD s (at + 3) 0) 5 e)))
+        by false e = kind-told (eqb-false (getD s (at + 3) 0) 5 e) ∙ sym q
 
--- ---- a table field that passed check 4: its address bits and its width stand first
-
-module _ (s : List ℕ) (at : ℕ) (p : TableAt s at) where
-  pub table-long : 2 ≤ lengthAt s at
-  table-long = omega (arith, table-facts (content s at) (p .good) .full, content-length s at (p .inside))
-
-  pub bits-in : getD s (at + 3) 0 ≡ tableIn s at .bits
-  unfolding tableIn tableRead
-  bits-in = sym (byte-is s at 0 (at + 3) (omega arith) (let l = table-long in omega arith))
-
-  pub wide-in : getD s (at + 4) 0 ≡ tableIn s at .wide
-  unfolding tableIn tableRead
-  wide-in = sym (byte-is s at 1 (at + 4) (omega arith) table-long)
+    pub gate-by : (k : ℕ) → 8 + k ≡ codeOf (nodeIn s at .element) → (getD s (at + 3) 0 ≡ 5) × (getD s (at + 5) 0 ≡ k)
+    gate-by k q = by (eqb (getD s (at + 3) 0) 5) refl
+      where
+        by : (t : Bool) → eqb (getD s (at + 3) 0) 5 ≡ t → (getD s (at + 3) 0 ≡ 5) × (getD s (at + 5) 0 ≡ k)
+        by true e = let g = eqb-true (getD s (at + 3) 0) 5 e in (g, omega (arith, q, gate-told g))
+        by false e = absurd (omega (arith, q, kind-few, kind-told (eqb-false (getD s (at + 3) 0) 5 e)))

@@ -1,17 +1,16 @@
 -- One turn of `scan_fields`, over plain values. Assumes nothing.
 use mathlib.Core.Path.{_≡_, refl, sym, ap, ap₂, subst, _∙_}
-use mathlib.Core.List.{List, [], _∷_, _++_, append-nil}
+use mathlib.Core.List.{List, [], _∷_, _++_}
 use Prim.Native.Nat.{ℕ, zero, suc, _+_, _≤_, _<_}
 use native.Mathlib.Omega.{arith}
 use native.Mathlib.Numerals.{add-one}
-use lib.ListN.{length, getD, take, set, length-set}
+use lib.ListN.{length, take, set, length-set}
 use lib.Seq.{take-suc-set, length-take-le}
 use lib.Dec.{eqb}
 use borrow.Author.Tests.{eq-eqb}
-use Rattle.lists.specs.Paths.{pick, on-true, on-lt, off-lt, off-eq}
-use Rattle.netlist.specs.Field.{fieldEnd}
-use Rattle.netlist.specs.Scan.{Scan, refused, found, follow, stepAt, walk, afterHead, scan}
-use Rattle.netlist.specs.ScanLaws.{TableAt, NodeAt, table-step, node-step, after, after-none, after-table, after-node, walk-step}
+use Rattle.lists.specs.Paths.{on-true, on-lt, off-lt, off-eq}
+use Rattle.netlist.specs.Scan.{Scan, refused, found, follow, stepAt, walk, scan}
+use Rattle.netlist.specs.ScanLaws.{table-step, node-step, walk-step}
 use Rattle.netlist.specs.declared.Step.{Step}
 use Rattle.netlist.specs.declared.Step.the-variants.{Refuse, TableField, NodeField, EndField}
 use Rattle.netlist.specs.declared.Scanned.{Scanned}
@@ -44,7 +43,7 @@ pub record Turn (s us₀ vs₀ us vs : List ℕ) (at t n : ℕ) : Type 0 where
   pub few-nodes : n ≤ 1024
   pub fuel : ℕ
   pub enough : length s < fuel + at
-  pub goes : after (take t us) (take n vs) (walk fuel s at t n) ≡ scan s
+  pub goes : walk fuel s at (take t us) (take n vs) ≡ scan s
 
 pub start : (s us vs : List ℕ) (r : ℕ) → length s ≤ 46000 → Headed s r → r ≡ 0 → 16 ≤ length us → 1024 ≤ length vs → Turn s us vs us vs 4 0 0
 unfolding scan
@@ -59,18 +58,21 @@ start s us vs r l h z a b = record {
   few-nodes = omega arith;
   fuel = length s;
   enough = omega arith;
-  goes = after-none (walk (length s) s 4 0 0) ∙ off-lt _ _ 46000 (length s) l (on-true _ _ (eqb r 0) (eq-eqb r 0 z) refl ∙ sym (h .goes));
+  goes = off-lt _ _ 46000 (length s) l (on-true _ _ (eqb r 0) (eq-eqb r 0 z) refl ∙ sym (h .goes));
 }
 
 module _ {s us₀ vs₀ us vs : List ℕ} {at t n : ℕ} (w : Turn s us₀ vs₀ us vs at t n) where
+  counts : (length (take t us) ≡ t) × (length (take n vs) ≡ n)
+  counts = (length-take-le t us (omega (arith, w .tables-room, w .few-tables)), length-take-le n vs (omega (arith, w .nodes-room, w .few-nodes)))
+
   -- the walk takes the step that stands at the offset
   stepped : (f : ℕ) → w .fuel ≡ f → (x : Step) → stepAt s at t n ≡ x
-      → (g : ℕ) × (length s < suc g + at) × (after (take t us) (take n vs) (follow at x (λ next. walk g s next (t + 1) n) (λ next. walk g s next t (n + 1))) ≡ scan s)
+      → (g : ℕ) × (length s < suc g + at) × (follow x (found (take t us) (take n vs)) (λ next. walk g s next (take t us ++ (at ∷ [])) (take n vs)) (λ next. walk g s next (take t us) (take n vs ++ (at ∷ []))) ≡ scan s)
   stepped zero e x p = absurd (let h = w .enough in let i = w .inside in omega arith)
   stepped (suc g) e x p = (
     g,
     subst (λ (k : ℕ). length s < k + at) e (w .enough),
-    ap (after (take t us) (take n vs)) (sym (walk-step g s at t n x p)) ∙ ap (λ (k : ℕ). after (take t us) (take n vs) (walk k s at t n)) (sym e) ∙ w .goes,
+    sym (walk-step g s at (take t us) (take n vs) x (ap₂ (stepAt s at) (counts .0) (counts .1) ∙ p)) ∙ ap (λ (k : ℕ). walk k s at (take t us) (take n vs)) (sym e) ∙ w .goes,
   )
 
   pub refuses : {k p : ℕ} → stepAt s at t n ≡ Refuse k p → Outcome s (scanned.Refuse k p) us vs
@@ -78,10 +80,10 @@ module _ {s us₀ vs₀ us vs : List ℕ} {at t n : ℕ} (w : Turn s us₀ vs₀
 
   pub ends : stepAt s at t n ≡ EndField → Outcome s (scanned.Fields t n) us vs
   ends e =
-      let a : length (take t us) ≡ t = length-take-le t us (let h = w .tables-room in let k = w .few-tables in omega arith) in
-      let b : length (take n vs) ≡ n = length-take-le n vs (let h = w .nodes-room in let k = w .few-nodes in omega arith) in
+      let a = counts .0 in
+      let b = counts .1 in
       outcome s us vs (found (take t us) (take n vs)) (scanned.Fields t n)
-      (ap₂ found (sym (append-nil (take t us))) (sym (append-nil (take n vs))) ∙ stepped (w .fuel) refl EndField e .2)
+      (stepped (w .fuel) refl EndField e .2)
       (ap₂ scanned.Fields (sym a) (sym b))
       (ap (λ (k : ℕ). take k us) a, ap (λ (k : ℕ). take k vs) b)
 
@@ -116,8 +118,7 @@ module _ {s us₀ vs₀ us vs : List ℕ} {at t n : ℕ} (w : Turn s us₀ vs₀
         few-nodes = w .few-nodes;
         fuel = f .0;
         enough = omega arith;
-        goes = ap (λ (l : List ℕ). after l (take n vs) (walk (f .0) s next (t + 1) n)) (ap (λ (k : ℕ). take k (set us t at)) (add-one t) ∙ take-suc-set us t at (omega arith))
-            ∙ sym (after-table (take t us) (take n vs) at (walk (f .0) s next (t + 1) n)) ∙ f .2;
+        goes = ap (λ (l : List ℕ). walk (f .0) s next l (take n vs)) (ap (λ (k : ℕ). take k (set us t at)) (add-one t) ∙ take-suc-set us t at (omega arith)) ∙ f .2;
       }
 
   pub node-turns : {next : ℕ} → stepAt s at t n ≡ NodeField next → Turn s us₀ vs₀ us (set vs n at) next t (n + 1)
@@ -137,6 +138,5 @@ module _ {s us₀ vs₀ us vs : List ℕ} {at t n : ℕ} (w : Turn s us₀ vs₀
         few-nodes = omega arith;
         fuel = f .0;
         enough = omega arith;
-        goes = ap (λ (l : List ℕ). after (take t us) l (walk (f .0) s next t (n + 1))) (ap (λ (k : ℕ). take k (set vs n at)) (add-one n) ∙ take-suc-set vs n at (omega arith))
-            ∙ sym (after-node (take t us) (take n vs) at (walk (f .0) s next t (n + 1))) ∙ f .2;
+        goes = ap (λ (l : List ℕ). walk (f .0) s next (take t us) l) (ap (λ (k : ℕ). take k (set vs n at)) (add-one n) ∙ take-suc-set vs n at (omega arith)) ∙ f .2;
       }

@@ -1,6 +1,6 @@
 -- What the scan leaves in the index. Assumes nothing.
 use mathlib.Core.Path.{_≡_}
-use mathlib.Core.List.{List}
+use mathlib.Core.List.{List, []}
 use Prim.Native.Nat.{ℕ, _≤_}
 use lib.ListN.{length, take}
 use lib.Dec.{eqb}
@@ -11,7 +11,7 @@ use Rattle.netlist.specs.declared.Scanned.the-variants.{Refuse, Fields}
 
 -- what the head leaves of the reading: a refusal, or the fields behind it
 pub record Headed (s : List ℕ) (r : ℕ) : Type 0 where
-  pub goes : afterHead s ≡ pick (eqb r 0) (walk (length s) s 4 0 0) (refused r 0)
+  pub goes : afterHead s ≡ pick (eqb r 0) (walk (length s) s 4 [] []) (refused r 0)
   pub room : r ≡ 0 → 4 ≤ length s
 
 abbrev pub scannedOf : Scan → Scanned

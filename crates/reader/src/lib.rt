@@ -1,31 +1,22 @@
 // Reads the fields of a file, checks 1 to 5, and keeps an index of them: the offsets of the table fields and of the node fields.
 pub mod parts;
 
-use netlist::Element;
-use netlist::Memory;
-use netlist::Node;
 use netlist::Scanned;
 use netlist::Step;
-use nodes::first_source;
 use nodes::good::content_good;
-use nodes::plain_op;
-use nodes::source_count;
-use nodes::sources_from;
-use words::Op;
 use words::fits_width;
 use words::word_at;
 ghost use mathlib.Core.Path.{_≡_};
 ghost use mathlib.Core.Bool.{true};
 ghost use Prim.Native.Nat.{_+_, _*_, _/_, _^_, _<_, _≤_, max};
-ghost use lib.ListN.{length, getD, drop};
+ghost use lib.ListN.{length, drop};
 ghost use Rattle.lists.specs.Lists.{largest};
 ghost use Rattle.words.specs.Words.{word};
 ghost use Rattle.netlist.specs.Field.{fieldEnd, content};
 ghost use Rattle.netlist.specs.TableField.{tableGood};
 ghost use Rattle.netlist.specs.Scan.{tableStep, nodeStep, endStep, stepAt, scan};
 ghost use Rattle.netlist.specs.ScanLaws.{TableAt, NodeAt};
-ghost use Rattle.netlist.specs.File.{tableIn, nodeIn};
-ghost use Rattle.nodes.specs.Unchecked.{opUnchecked};
+ghost use Rattle.netlist.specs.File.{nodeIn};
 ghost use Rattle.reader.specs.Index.{scannedOf, Indexed, Headed};
 
 fn larger(a: u16, b: u16) -> u16
@@ -219,58 +210,7 @@ pub fn scan_fields(file: &[u8], tables: &mut [u16], nodes: &mut [u16]) -> Scanne
     }
 }
 
-// The operation of the gate whose field stands at an offset. The field passed check 5, so its bytes are read without tests.
-fn op_at(file: &[u8], at: usize) -> Op
-    requires { ⌜ NodeAt (now file) at × (getD (now file) (at + 3) 0 ≡ 5) ⌝ }
-    ensures { λ r. ⌜ r ≡ opUnchecked (content (now (file .entry)) at) ⌝ }
-{
-    let k = file[at + 5];
-    match k {
-        0 => Op::Constant(word_at(file, at + 6)),
-        10 => Op::Part(file[at + 8]),
-        _ => plain_op(k),
-    }
-}
-
-fn element_at(file: &[u8], at: usize) -> Element
-    requires { ⌜ NodeAt (now file) at ⌝ }
-    ensures { λ r. ⌜ r ≡ nodeIn (now (file .entry)) at .element ⌝ }
-{
-    let kind = file[at + 3];
-    match kind {
-        0 => Element::Input,
-        1 => Element::Output,
-        2 => Element::Register(word_at(file, at + 7)),
-        3 => Element::Async(Memory {
-            table: file[at + 7],
-        }),
-        4 => Element::Clocked(
-            Memory {
-                table: file[at + 7],
-            },
-            word_at(file, at + 8),
-        ),
-        _ => Element::Gate(op_at(file, at)),
-    }
-}
-
-// The node whose field stands at an offset.
-pub fn node_at(file: &[u8], at: usize) -> Node
-    requires { ⌜ NodeAt (now file) at ⌝ }
-    ensures { λ r. ⌜ r ≡ nodeIn (now (file .entry)) at ⌝ }
-{
-    let element = element_at(file, at);
-    let from = at + 3 + first_source(element);
-    let n = source_count(element);
-    let sources = sources_from(file, from, n);
-    Node {
-        element,
-        width: file[at + 4],
-        sources,
-    }
-}
-
-// Its width alone.
+// The width of the node whose field stands at an offset. The field passed check 5, so its bytes are read without tests.
 pub fn width_at(file: &[u8], at: usize) -> u8
     requires { ⌜ NodeAt (now file) at ⌝ }
     ensures { λ r. ⌜ r ≡ nodeIn (now (file .entry)) at .width ⌝ }
@@ -279,23 +219,7 @@ pub fn width_at(file: &[u8], at: usize) -> u8
     file[after_kind]
 }
 
-// Of the table whose field stands at an offset: its address bits, its width, and its words as a part of the file.
-pub fn table_bits(file: &[u8], at: usize) -> u8
-    requires { ⌜ TableAt (now file) at ⌝ }
-    ensures { λ r. ⌜ r ≡ tableIn (now (file .entry)) at .bits ⌝ }
-{
-    let after_length = at + 3;
-    file[after_length]
-}
-
-pub fn table_width(file: &[u8], at: usize) -> u8
-    requires { ⌜ TableAt (now file) at ⌝ }
-    ensures { λ r. ⌜ r ≡ tableIn (now (file .entry)) at .wide ⌝ }
-{
-    let after_bits = at + 4;
-    file[after_bits]
-}
-
+// The words of the table whose field stands at an offset, as a part of the file.
 pub fn table_part(file: &[u8], at: usize) -> &[u8]
     requires { ⌜ TableAt (now file) at ⌝ }
     ensures { λ r. ⌜ now r ≡ drop 2 (content (now (file .entry)) at) ⌝ }

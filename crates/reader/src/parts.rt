@@ -1,26 +1,65 @@
-// A node's parts, read with no branch on its kind: kinds follow no pattern, and such branches would be predicted wrong.
+// A node's parts, read with one branch on its code at most: kinds follow no pattern, and such branches would be predicted wrong.
 use nodes::Sources;
-use nodes::code_sources;
-use nodes::good::of_gate;
 use nodes::good::wide8;
 use nodes::sources_from;
+use words::operand_count;
+use words::word_at;
 ghost use mathlib.Core.Path.{_≡_};
-ghost use Prim.Native.Nat.{_+_, _<_, _≤_};
+ghost use Prim.Native.Nat.{_<_, _≤_};
+ghost use lib.Dec.{eqb};
+ghost use Rattle.lists.specs.Paths.{pick};
 ghost use Rattle.netlist.specs.declared.Element.{Element};
+ghost use Rattle.netlist.specs.Net.{operands};
 ghost use Rattle.netlist.specs.NodeField.{firstSource};
 ghost use Rattle.netlist.specs.ScanLaws.{NodeAt};
 ghost use Rattle.netlist.specs.File.{nodeIn};
-ghost use Rattle.nodes.specs.Code.{codeOf};
+ghost use Rattle.circuit.specs.Code.{codeOf};
+ghost use Rattle.reader.specs.Parts.{opOf, loneOf, Holds};
 
-// The code of the node whose field stands at an offset: its kind, and of a gate 5 more than its operation.
+// 1 for a gate. By arithmetic, as all that hangs on it: a test may become a branch.
+fn gate_bit(kind: u8) -> usize
+    requires { ⌜ kind ≤ 5 ⌝ }
+    ensures { λ r. ⌜ (r ≡ pick (eqb kind 5) 1 0) × (r ≤ 1) ⌝ }
+{
+    (wide8(kind) + 3) / 8
+}
+
+// The code of the node whose field stands at an offset: its kind, and of a gate 8 more than its operation.
 pub fn code_at(file: &[u8], at: usize) -> usize
     requires { ⌜ NodeAt (now file) at ⌝ }
-    ensures { λ r. ⌜ r ≡ codeOf (nodeIn (now (file .entry)) at .element) ⌝ }
+    ensures { λ r. ⌜ (r ≡ codeOf (nodeIn (now (file .entry)) at .element)) × (r < 20) ⌝ }
 {
-    let kind = file[at + 3];
-    let base = of_gate(kind, 5);
-    let place = at + 3 + of_gate(kind, 2);
-    base + wide8(file[place])
+    let gate = gate_bit(file[at + 3]);
+    let place = at + 3 + 2 * gate;
+    8 * gate + wide8(file[place])
+}
+
+// The operation of a code: of what is no gate a constant's, which has no source.
+fn op_by_code(code: usize) -> usize
+    requires { ⌜ code < 20 ⌝ }
+    ensures { λ r. ⌜ (r ≡ opOf code) × (r < 12) ⌝ }
+{
+    let gate = (code + 24) / 32;
+    (code - 8 * gate) * gate
+}
+
+// The one source of what is neither a gate nor an input port.
+fn lone_by_code(code: usize) -> usize
+    ensures { λ r. ⌜ (r ≡ loneOf code) × (r ≤ 1) ⌝ }
+{
+    if code == 0 {
+        0
+    } else {
+        if code < 5 { 1 } else { 0 }
+    }
+}
+
+// How many sources it has.
+pub fn count_by_code(code: usize) -> usize
+    requires { ⌜ code < 20 ⌝ }
+    ensures { λ r. ⌜ ((e : Element) → code ≡ codeOf e → r ≡ operands e) × (r ≤ 4) ⌝ }
+{
+    operand_count(op_by_code(code)) + lone_by_code(code)
 }
 
 fn first_by_code(code: usize) -> usize
@@ -29,12 +68,55 @@ fn first_by_code(code: usize) -> usize
     if code < 5 { 2 } else { 3 }
 }
 
-// Its sources.
-pub fn sources_at(file: &[u8], at: usize, code: usize) -> Sources
-    requires { ⌜ NodeAt (now file) at × (code ≡ codeOf (nodeIn (now file) at .element)) ⌝ }
+// Its sources, of which n count.
+pub fn sources_at(file: &[u8], at: usize, code: usize, n: usize) -> Sources
+    requires { ⌜ NodeAt (now file) at × (code ≡ codeOf (nodeIn (now file) at .element)) × (n ≡ operands (nodeIn (now file) at .element)) ⌝ }
     ensures { λ r. ⌜ r ≡ nodeIn (now (file .entry)) at .sources ⌝ }
 {
     let from = at + 3 + first_by_code(code);
-    let n = code_sources(code);
     sources_from(file, from, n)
+}
+
+fn byte_word(x: u8) -> u16
+    ensures { λ r. ⌜ (r ≡ x) × (r < 256) ⌝ }
+{
+    x as u16
+}
+
+// The number that a node holds, and its table; 0 where it has none.
+pub struct Held {
+    pub number: u16,
+    pub table: u16,
+}
+
+pub fn held_at(file: &[u8], at: usize, code: usize) -> Held
+    requires { ⌜ NodeAt (now file) at × (code ≡ codeOf (nodeIn (now file) at .element)) ⌝ }
+    ensures { λ r. ⌜ Holds (nodeIn (now (file .entry)) at .element) (r .number) (r .table) ⌝ }
+{
+    match code {
+        2 => Held {
+            number: word_at(file, at + 7),
+            table: 0,
+        },
+        3 => Held {
+            number: 0,
+            table: byte_word(file[at + 7]),
+        },
+        4 => Held {
+            number: word_at(file, at + 8),
+            table: byte_word(file[at + 7]),
+        },
+        8 => Held {
+            number: word_at(file, at + 6),
+            table: 0,
+        },
+        18 => Held {
+            number: byte_word(file[at + 8]),
+            table: 0,
+        },
+        _ => Held {
+            number: 0,
+            table: 0,
+        },
+    }
 }

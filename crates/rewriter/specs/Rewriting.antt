@@ -1,38 +1,30 @@
 -- The rewriting of a file that the reader takes, check by check. Assumes nothing.
-use mathlib.Core.Path.{_≡_, sym, ap, subst, _∙_}
+use mathlib.Core.Path.{_≡_, sym, ap, _∙_}
 use mathlib.Core.Logic.{⊎-elim}
 use mathlib.Core.Bool.{true, false}
 use mathlib.Core.List.{List, [], _∷_, _++_}
 use Prim.Native.Nat.{ℕ, _≤_, _<_, zero-le}
 use native.Mathlib.Omega.{arith}
-use lib.ListN.{length, take, drop, length-map}
+use lib.ListN.{length, drop, length-map}
 use lib.Dec.{ltb, lit<}
 use borrow.Author.Tests.{lt-ltb, le-ltb, ltb-false}
 use Rattle.lists.specs.BelowLaws.{true-or-false}
 use Rattle.netlist.specs.Net.{Net, size}
 use Rattle.netlist.specs.Verdict.{ofWhole, verdict, onward}
-use Rattle.netlist.specs.Checks.{WellFormed}
-use Rattle.netlist.specs.VerdictLaws.{fine-clear, reader-fine}
-use Rattle.netlist.specs.File.{Decoded, netIn, decode, decodedNet, judged, fileVerdict, encode}
+use Rattle.netlist.specs.VerdictLaws.{fine-clear}
+use Rattle.netlist.specs.File.{Decoded, decode, decodedNet, judged, fileVerdict, encode}
 use Rattle.netlist.specs.declared.Answer.{Answer}
 use Rattle.netlist.specs.declared.Answer.the-variants.{Accepted, Refused}
 use Rattle.netlist.specs.declared.Verdict.{Verdict}
 use Rattle.netlist.specs.declared.Verdict.the-variants.{Fine, Refuses}
-use Rattle.codec.specs.Bytes.{Bytes}
-use Rattle.codec.specs.DecodeWithin.{decode-within}
-use Rattle.codec.specs.EncodeDecode.{tables-as-they-came}
-use Rattle.netlist.specs.declared.Scanned.{Scanned}
-use Rattle.netlist.specs.declared.Scanned.the-variants.{Fields}
-use Rattle.columns.specs.Columns.{Columns, Widths}
-use Rattle.checks.specs.Open.{Open, Columned, columned}
-use Rattle.checks.specs.Opens.{decoded-as}
+use Rattle.circuit.specs.Circuit.{netOf}
+use Rattle.checks.specs.Open.{Open}
 use Rattle.behaviour.specs.Run.{zeroWord}
 use Rattle.retiming.specs.Leads.{closedDebt}
 use Rattle.retiming.specs.Rewrite.{places, nodeOf, timing, rewrittenWith, rewritten}
 use Rattle.retiming.specs.Debt.{grown, debtVerdict}
 use Rattle.retiming.specs.FileRewrite.{rewriterVerdict, rewrittenOf, rewrittenFile, Rewrote, written, writtenAfter, rewriteFile}
 use Rattle.leads.specs.Debts.{debtsVerdict, debts-first}
-use Rattle.layout.specs.Written.{TablesCame}
 
 -- ---- 13
 
@@ -101,20 +93,11 @@ pub file-refused : (s out : List ℕ) {k p : ℕ} → fileVerdict s ≡ Refuses 
 unfolding rewriteFile rewriterVerdict
 file-refused s out e = sym (ap (λ (v : Verdict). writtenAfter (onward v (debtVerdict (decodedNet (decode s)))) (rewrittenFile s) out) e)
 
-pub file-taken : {s ts ns order : List ℕ} → Open s ts ns order → (out : List ℕ) → netOutcome (netIn s ts ns) out ≡ rewriteFile s out
+pub file-taken : {s l : List ℕ} → Open s l → (out : List ℕ) → netOutcome (netOf s l) out ≡ rewriteFile s out
 unfolding rewriteFile rewriterVerdict rewrittenFile fileVerdict
-file-taken {s} {ts} {ns} o out =
-    sym (ap (λ (d : Decoded). writtenAfter (onward (judged d) (debtVerdict (decodedNet d))) (rewrittenOf d) out) (decoded-as s ts ns (o .scanned))
-    ∙ ap (λ (v : Verdict). writtenAfter (onward v (debtVerdict (netIn s ts ns))) (encode (rewritten (netIn s ts ns))) out) (o .fine))
-
--- ---- what opening leaves
-
-module _ {s ts ns order : List ℕ} (o : Open s ts ns order) (b : Bytes s) where
-  pub net-formed : WellFormed (netIn s ts ns)
-  net-formed = reader-fine (netIn s ts ns) (decode-within s (netIn s ts ns) b (decoded-as s ts ns (o .scanned)) .fields) (o .fine)
-
-  pub tables-came : TablesCame s ts
-  tables-came = tables-as-they-came s ts ns b (o .scanned)
+file-taken {s} {l} o out =
+    sym (ap (λ (d : Decoded). writtenAfter (onward (judged d) (debtVerdict (decodedNet d))) (rewrittenOf d) out) (o .decodes)
+    ∙ ap (λ (v : Verdict). writtenAfter (onward v (debtVerdict (netOf s l))) (encode (rewritten (netOf s l))) out) (o .fine))
 
 -- ---- an accepted length is within the output
 
@@ -138,13 +121,3 @@ after-inside (Refuses k p) b out = zero-le
 pub accepted-inside : (s out : List ℕ) {r : Answer} {n : ℕ} → r ≡ rewriteFile s out .answer → r ≡ Accepted n → n ≤ length out
 unfolding rewriteFile lengthOf
 accepted-inside s out {n = n} e q = let l : lengthOf (Accepted n) ≡ lengthOf (rewriteFile s out .answer) = ap lengthOf (sym q ∙ e) in omega (arith, after-inside (rewriterVerdict s) (rewrittenFile s) out)
-
--- ---- the columns that opening leaves
-
-columns-with : {s us vs codes sources widths : List ℕ} {t n : ℕ} → Columned s us vs codes sources widths (Fields t n)
-    → Columns (netIn s (take t us) (take n vs)) codes sources (length (take n vs)) × Widths (netIn s (take t us) (take n vs)) widths (length (take n vs))
-columns-with (columned a b) = (a, b)
-
-pub columns-of : {s us vs codes sources widths : List ℕ} {r : Scanned} {t n : ℕ} → Columned s us vs codes sources widths r → r ≡ Fields t n
-    → Columns (netIn s (take t us) (take n vs)) codes sources (length (take n vs)) × Widths (netIn s (take t us) (take n vs)) widths (length (take n vs))
-columns-of {s} {us} {vs} {codes} {sources} {widths} c e = columns-with (subst (Columned s us vs codes sources widths) e c)

@@ -1,184 +1,93 @@
 // The rewriter: checks 1 to 14, and the netlist whose ROMs are all clocked. Nothing is written before every check is passed.
 
-use checks::open_columns;
-use layout::nodes_length;
-use layout::put_nodes;
-use layout::put_tables;
-use layout::tables_length;
+use checks::open_file;
+use layout::lay_circuit;
 use leads::find_leads;
 use netlist::Answer;
-use netlist::Scanned;
 use netlist::Verdict;
 use plan::make_plan;
+use saving::circuit_length;
+use saving::write_circuit;
 use wires::find_roots;
-use writer::put_end;
-use writer::put_head;
 ghost use mathlib.Core.Path.{_≡_};
 ghost use mathlib.Core.Bool.{false};
-ghost use Prim.Native.Nat.{_≤_};
-ghost use lib.ListN.{length};
-ghost use Rattle.netlist.specs.Net.{inClock};
+ghost use Rattle.netlist.specs.Net.{Net, inClock};
 ghost use Rattle.netlist.specs.Checks.{WellFormed};
-ghost use Rattle.netlist.specs.ScanLaws.{Found};
-ghost use Rattle.netlist.specs.File.{netIn, encode};
-ghost use Rattle.columns.specs.Columns.{Columns, Widths};
-ghost use Rattle.order.specs.Order.{Complete};
+ghost use Rattle.netlist.specs.File.{encode};
+ghost use Rattle.circuit.specs.Circuit.{orderOf, netOf, Circuit};
+ghost use Rattle.circuit.specs.Opened.{opened};
+ghost use Rattle.circuit.specs.Order.{Complete};
+ghost use Rattle.evaluate.specs.Clock.{Inside};
 ghost use Rattle.retiming.specs.Leads.{closedDebt};
-ghost use Rattle.retiming.specs.Rewrite.{rewritten};
 ghost use Rattle.retiming.specs.FileRewrite.{written, rewriteFile};
 ghost use Rattle.leads.specs.Settled.{LeadsIn};
-ghost use Rattle.plan.specs.Plan.{Planned};
-ghost use Rattle.layout.specs.Written.{TablesCame};
 ghost use Rattle.rewriter.specs.Rewriting.{debtlessOutcome, netOutcome};
 
-// Writes the planned file, where the output is long enough for it: 14.
-fn write_planned(
-    file: &[u8],
-    tables: &[u16],
-    nodes: &[u16],
-    entries: usize,
-    total: usize,
-    owners: &[u16],
-    words: &[u16],
-    sources: &[u16],
-    out: &mut [u8],
-    codes: &[u8],
-    reads: &[u16],
-) -> Answer
-    requires { ⌜ Found (now file) (now tables) (now nodes) × TablesCame (now file) (now tables)
-        × Columns (netIn (now file) (now tables) (now nodes)) (now codes) (now reads) (length (now nodes))
-        × Planned (netIn (now file) (now tables) (now nodes)) (now owners) (now words) (now sources) entries total × (total ≤ 1024) ⌝ }
-    ensures { λ r. ⌜ (r ≡ written (encode (rewritten (netIn (now (file .entry)) (now (tables .entry)) (now (nodes .entry))))) (now (out .entry)) .answer)
-        × (now (out .exit) ≡ written (encode (rewritten (netIn (now (file .entry)) (now (tables .entry)) (now (nodes .entry))))) (now (out .entry)) .out) ⌝ }
+// Writes the file of a circuit, where the output is long enough for it: 14.
+fn write_fitting(file: &[u8], net: &[u16], out: &mut [u8]) -> Answer
+    ghost { Net }
+    requires { λ N. ⌜ netOf (now file) (now net) ≡ N ⌝ ∗ ⌜ Circuit (now file) (now net) ⌝ }
+    ensures { λ N r. ⌜ (r ≡ written (encode N) (now (out .entry)) .answer) × (now (out .exit) ≡ written (encode N) (now (out .entry)) .out) ⌝ }
 {
-    let length = 7
-        + tables_length(file, tables, nodes)
-        + nodes_length(
-            file,
-            tables,
-            nodes,
-            entries,
-            total,
-            owners,
-            words,
-            sources,
-            codes,
-            reads,
-        );
+    let length = circuit_length(file, net);
     if out.len() < length {
         return Answer::Refused(14, 65535);
     }
-    let after_head = put_head(out, 0);
-    let after_tables = put_tables(file, tables, nodes, out, after_head);
-    let after_nodes = put_nodes(
-        file,
-        tables,
-        nodes,
-        entries,
-        total,
-        owners,
-        words,
-        sources,
-        out,
-        after_tables,
-    );
-    put_end(out, after_nodes);
+    write_circuit(file, net, out);
     Answer::Accepted(length)
 }
 
-// 13 and 14, of a netlist that 11 and 12 let pass.
-fn rewrite_debtless(
-    file: &[u8],
-    tables: &[u16],
-    nodes: &[u16],
-    order: &[u16],
-    leads: &[u16],
-    out: &mut [u8],
-    codes: &[u8],
-    reads: &[u16],
-    widths: &[u8],
-) -> Answer
-    requires { ⌜ Found (now file) (now tables) (now nodes) × WellFormed (netIn (now file) (now tables) (now nodes)) × TablesCame (now file) (now tables)
-        × Complete inClock (netIn (now file) (now tables) (now nodes)) (now order) × LeadsIn (netIn (now file) (now tables) (now nodes)) (now leads)
-        × (closedDebt (netIn (now file) (now tables) (now nodes)) ≡ false)
-        × Columns (netIn (now file) (now tables) (now nodes)) (now codes) (now reads) (length (now nodes))
-        × Widths (netIn (now file) (now tables) (now nodes)) (now widths) (length (now nodes)) ⌝ }
-    ensures { λ r. ⌜ (r ≡ debtlessOutcome (netIn (now (file .entry)) (now (tables .entry)) (now (nodes .entry))) (now (out .entry)) .answer)
-        × (now (out .exit) ≡ debtlessOutcome (netIn (now (file .entry)) (now (tables .entry)) (now (nodes .entry))) (now (out .entry)) .out) ⌝ }
+// 13 and 14, of a netlist that 11 and 12 let pass: the plan, its circuit, and that one's file.
+fn rewrite_debtless(file: &[u8], net: &[u16], leads: &[u16], out: &mut [u8]) -> Answer
+    ghost { Net }
+    requires { λ N. opened 𝓤 (now file) (now net) N (WellFormed N × Inside N × Complete inClock N (orderOf (now net)) × LeadsIn N (now leads) × (closedDebt N ≡ false)) }
+    ensures { λ N r. ⌜ (r ≡ debtlessOutcome N (now (out .entry)) .answer) × (now (out .exit) ≡ debtlessOutcome N (now (out .entry)) .out) ⌝ }
 {
     let mut roots = [0u16; 1024];
     let mut passes = [0u16; 1024];
-    find_roots(file, tables, nodes, &mut roots, &mut passes, codes, reads);
+    find_roots(file, net, &mut roots, &mut passes);
     let mut owners = [0u16; 1024];
     let mut words = [0u16; 1024];
     let mut sources = [0u16; 3072];
     let plan = make_plan(
         file,
-        tables,
-        nodes,
-        order,
+        net,
         leads,
         &roots,
         &passes,
         &mut owners,
         &mut words,
         &mut sources,
-        codes,
-        reads,
-        widths,
     );
     let entries = plan.entries;
     let total = plan.total;
     if 1024 < total {
         return Answer::Refused(13, 65535);
     }
-    write_planned(
+    let mut new = [0u16; 10304];
+    lay_circuit(
         file,
-        tables,
-        nodes,
+        net,
         entries,
         total,
         &owners,
         &words,
         &sources,
-        out,
-        codes,
-        reads,
-    )
+        &mut new,
+    );
+    write_fitting(file, &new, out)
 }
 
 // 11 to 14, of a netlist that the reader takes.
-fn rewrite_opened(
-    file: &[u8],
-    tables: &[u16],
-    nodes: &[u16],
-    order: &[u16],
-    out: &mut [u8],
-    codes: &[u8],
-    reads: &[u16],
-    widths: &[u8],
-) -> Answer
-    requires { ⌜ Found (now file) (now tables) (now nodes) × WellFormed (netIn (now file) (now tables) (now nodes)) × TablesCame (now file) (now tables)
-        × Complete inClock (netIn (now file) (now tables) (now nodes)) (now order)
-        × Columns (netIn (now file) (now tables) (now nodes)) (now codes) (now reads) (length (now nodes))
-        × Widths (netIn (now file) (now tables) (now nodes)) (now widths) (length (now nodes)) ⌝ }
-    ensures { λ r. ⌜ (r ≡ netOutcome (netIn (now (file .entry)) (now (tables .entry)) (now (nodes .entry))) (now (out .entry)) .answer)
-        × (now (out .exit) ≡ netOutcome (netIn (now (file .entry)) (now (tables .entry)) (now (nodes .entry))) (now (out .entry)) .out) ⌝ }
+fn rewrite_opened(file: &[u8], net: &[u16], out: &mut [u8]) -> Answer
+    ghost { Net }
+    requires { λ N. opened 𝓤 (now file) (now net) N (WellFormed N × Inside N × Complete inClock N (orderOf (now net))) }
+    ensures { λ N r. ⌜ (r ≡ netOutcome N (now (out .entry)) .answer) × (now (out .exit) ≡ netOutcome N (now (out .entry)) .out) ⌝ }
 {
     let mut leads = [0u16; 1024];
-    match find_leads(file, tables, nodes, order, &mut leads, codes, reads) {
+    match find_leads(file, net, &mut leads) {
         Verdict::Refuses(number, place) => Answer::Refused(number, place),
-        Verdict::Fine => rewrite_debtless(
-            file,
-            tables,
-            nodes,
-            order,
-            &leads,
-            out,
-            codes,
-            reads,
-            widths,
-        ),
+        Verdict::Fine => rewrite_debtless(file, net, &leads, out),
     }
 }
 
@@ -186,31 +95,9 @@ fn rewrite_opened(
 pub fn rewrite_file(file: &[u8], out: &mut [u8]) -> Answer
     ensures { λ r. ⌜ (r ≡ rewriteFile (now (file .entry)) (now (out .entry)) .answer) × (now (out .exit) ≡ rewriteFile (now (file .entry)) (now (out .entry)) .out) ⌝ }
 {
-    let mut tables = [0u16; 16];
-    let mut nodes = [0u16; 1024];
-    let mut order = [0u16; 1024];
-    let mut codes = [0u8; 1024];
-    let mut widths = [0u8; 1024];
-    let mut reads = [0u16; 3072];
-    match open_columns(
-        file,
-        &mut tables,
-        &mut nodes,
-        &mut order,
-        &mut codes,
-        &mut widths,
-        &mut reads,
-    ) {
-        Scanned::Refuse(number, place) => Answer::Refused(number, place),
-        Scanned::Fields(t, n) => rewrite_opened(
-            file,
-            &tables[..t],
-            &nodes[..n],
-            &order,
-            out,
-            &codes,
-            &reads,
-            &widths,
-        ),
+    let mut net = [0u16; 10304];
+    match open_file(file, &mut net) {
+        Verdict::Refuses(number, place) => Answer::Refused(number, place),
+        Verdict::Fine => rewrite_opened(file, &net, out),
     }
 }

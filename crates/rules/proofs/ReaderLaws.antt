@@ -3,7 +3,7 @@ use mathlib.Core.Path.{_≡_, refl, sym, ap, subst, _∙_}
 use mathlib.Core.Logic.{⊎-elim}
 use mathlib.Core.Bool.{Bool, true, false, not, cond, _||_, _&&_}
 use mathlib.Core.List.{List}
-use Prim.Native.Nat.{ℕ, zero, suc, _+_, _*_, _≤_, _<_}
+use Prim.Native.Nat.{ℕ, suc, _+_, _*_, _≤_, _<_}
 use native.Mathlib.Nat.{not-suc-le-zero}
 use native.Mathlib.Omega.{arith}
 use native.Mathlib.Numerals.{add-one}
@@ -12,15 +12,14 @@ use lib.Seq.{getD-set-same, getD-set-other}
 use lib.Dec.{eqb, ltb}
 use borrow.Author.Tests.{lt-ltb}
 use Rattle.lists.specs.Lists.{anyBelow, one}
-use Rattle.lists.specs.BelowLaws.{any-same, true-or-false, lt-or-le, eqb-true, eqb-differ, anyBelow-intro}
+use Rattle.lists.specs.BelowLaws.{true-or-false, lt-or-le, eqb-true, eqb-differ, anyBelow-intro}
 use Rattle.netlist.specs.Net.{Net, size, elementAt, source, operands, isInput, isOutput}
 use Rattle.netlist.specs.Reach.{readsTest}
 use Rattle.netlist.specs.Verdict.{unread}
 use Rattle.netlist.specs.declared.Element.{Element}
 use Rattle.netlist.specs.declared.Element.the-variants.{Input, Output, Register, Async, Clocked, Gate}
 use Rattle.netlist.specs.NodeField.{opNumber}
-use Rattle.nodes.specs.Code.{codeOf}
-use Rattle.columns.specs.Columns.{Columns, source-is}
+use Rattle.circuit.specs.Code.{codeOf}
 use Rattle.rules.specs.OrFirst.{OrFirst}
 use Rattle.rules.specs.Marks.{Marks, Marked}
 
@@ -103,30 +102,28 @@ port-code Output = refl
 port-code (Register r) = refl
 port-code (Async m) = refl
 port-code (Clocked m r) = refl
-port-code (Gate o) = lt-ltb 1 (5 + opNumber o) (omega arith)
+port-code (Gate o) = lt-ltb 1 (8 + opNumber o) (omega arith)
 
 module _ (N : Net) where
   pub no-marks : (k : ℕ) → size N ≤ k → Marks N (replicate k 0) 0
   no-marks k h = record { room = simp length-replicate h; each = λ u l. getD-replicate k u 0 0 (omega arith) }
 
   -- one reader more
-  pub marks-more : {before after codes sources : List ℕ} {x n m : ℕ} → Columns N codes sources m → x < m → n ≡ operands (elementAt N x) → n ≤ 3
-      → Marks N before x → Marked (λ p. getD sources (3 * x + p) 0) n before after → Marks N after (x + 1)
+  pub marks-more : {before after : List ℕ} {x n : ℕ} → n ≡ operands (elementAt N x) → Marks N before x → Marked (source N x) n before after → Marks N after (x + 1)
   unfolding readsTest
-  marks-more {before} {after} {codes} {sources} {x} {n} t l k few m w = record {
+  marks-more {before} {after} {x} {n} k m w = record {
     room = let r = m .room in let l = w .kept in omega arith;
     each = λ u h.
         w .each u (let r = m .room in omega arith)
-        ∙ ap (λ (b : Bool). cond b 1 (getD before u 0)) (any-same n (λ p. eqb (getD sources (3 * x + p) 0) u) (λ p. eqb (source N x p) u) (λ p a. ap (λ (s : ℕ). eqb s u) (source-is N t x p (3 * x + p) l (omega arith) refl)))
         ∙ ap (λ (j : ℕ). cond (anyBelow j (λ p. eqb (source N x p) u)) 1 (getD before u 0)) k
         ∙ ap (cond (readsTest N x u) 1) (m .each u h)
         ∙ one-of (readsTest N x u) (anyBelow x (λ z. readsTest N z u))
         ∙ ap (λ (j : ℕ). one (anyBelow j (λ z. readsTest N z u))) (sym (add-one x));
   }
 
-  module _ {marks : List ℕ} {n : ℕ} (s : size N ≡ n) (m : Marks N marks n) (v : ℕ) (h : v < size N) where
+  module _ {marks : List ℕ} (m : Marks N marks (size N)) (v : ℕ) (h : v < size N) where
     counted : getD marks v 0 ≡ one (anyBelow (size N) (λ z. readsTest N z v))
-    counted = m .each v h ∙ ap (λ (k : ℕ). one (anyBelow k (λ z. readsTest N z v))) (sym s)
+    counted = m .each v h
 
     pub read : 0 < getD marks v 0 → false ≡ unread N v
     unfolding unread

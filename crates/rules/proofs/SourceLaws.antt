@@ -2,30 +2,19 @@
 use mathlib.Core.Path.{_≡_, refl, sym, ap, _∙_}
 use mathlib.Core.Bool.{Bool, true, false, not, _||_, false≢true}
 use mathlib.Core.List.{List}
-use Prim.Native.Nat.{ℕ, _+_, _*_, _≤_, _<_}
+use Prim.Native.Nat.{ℕ, _≤_, _<_}
 use native.Mathlib.Omega.{arith}
-use lib.ListN.{length, getD}
-use lib.Dec.{eqb, ltb}
-use borrow.Author.Tests.{ne-eqb, lt-ltb, le-ltb}
+use lib.ListN.{length}
+use lib.Dec.{ltb}
+use borrow.Author.Tests.{lt-ltb, le-ltb}
 use Rattle.lists.specs.Lists.{anyBelow}
-use Rattle.lists.specs.BelowLaws.{any-same}
-use Rattle.netlist.specs.Net.{Table, Net, elementAt, source, operands, isOutput, isMemory, tableOf}
+use Rattle.netlist.specs.Net.{Table, Net, elementAt, source, operands, isMemory, tableOf}
 use Rattle.netlist.specs.Verdict.{tableThere, noSource, badSource}
 use Rattle.netlist.specs.declared.Element.{Element}
 use Rattle.netlist.specs.declared.Element.the-variants.{Input, Output, Register, Async, Clocked, Gate}
-use Rattle.netlist.specs.NodeField.{opNumber}
-use Rattle.nodes.specs.Code.{codeOf}
-use Rattle.columns.specs.Columns.{Columns, source-is}
+use Rattle.circuit.specs.Code.{codeOf, tableOr}
 
--- what the code tells: an output port, and that there is no table to look for
-pub output-code : (e : Element) → eqb (codeOf e) 1 ≡ isOutput e
-output-code Input = refl
-output-code Output = refl
-output-code (Register r) = refl
-output-code (Async m) = refl
-output-code (Clocked m r) = refl
-output-code (Gate o) = ne-eqb (5 + opNumber o) 1 (λ d. omega arith)
-
+-- there is no table to look for
 pub no-rom : (ts : List Table) (e : Element) → (codeOf e ≡ 3 → ⊥) → (codeOf e ≡ 4 → ⊥) → false ≡ not (tableThere ts e)
 no-rom ts Input a b = refl
 no-rom ts Output a b = refl
@@ -33,6 +22,23 @@ no-rom ts (Register r) a b = refl
 no-rom ts (Async m) a b = absurd (a refl)
 no-rom ts (Clocked m r) a b = absurd (b refl)
 no-rom ts (Gate o) a b = refl
+
+-- the codes 3 and 4 are those of the ROMs
+pub rom-code : (e : Element) → 3 ≤ codeOf e → codeOf e ≤ 4 → isMemory e ≡ true
+rom-code Input l h = absurd (omega arith)
+rom-code Output l h = absurd (omega arith)
+rom-code (Register r) l h = absurd (omega arith)
+rom-code (Async m) l h = refl
+rom-code (Clocked m r) l h = refl
+rom-code (Gate o) l h = absurd (omega arith)
+
+pub rom-table : (e : Element) → isMemory e ≡ true → {k : ℕ} → k ≡ tableOr k e → k ≡ tableOf e
+rom-table Input m q = absurd (false≢true m)
+rom-table Output m q = absurd (false≢true m)
+rom-table (Register r) m q = absurd (false≢true m)
+rom-table (Async x) m q = q
+rom-table (Clocked x r) m q = q
+rom-table (Gate o) m q = absurd (false≢true m)
 
 -- a ROM's table is there where its number is one of the tables'
 rom-there : (ts : List Table) (e : Element) → isMemory e ≡ true → ltb (tableOf e) (length ts) ≡ tableThere ts e
@@ -55,10 +61,7 @@ module _ (N : Net) (v : ℕ) where
   unfolding badSource
   missing h = sym (ap (λ (b : Bool). b || anyBelow (operands (elementAt N v)) (λ p. noSource N (source N v p))) h)
 
-  pub there : {codes sources : List ℕ} {m : ℕ} → Columns N codes sources m → v < m → not (tableThere (N .tables) (elementAt N v)) ≡ false → (n : ℕ) → n ≡ operands (elementAt N v) → n ≤ 3
-      → (r : Bool) → r ≡ anyBelow n (λ p. noSource N (getD sources (3 * v + p) 0)) → r ≡ badSource N v
+  pub there : not (tableThere (N .tables) (elementAt N v)) ≡ false → (n : ℕ) → n ≡ operands (elementAt N v) → (r : Bool) → r ≡ anyBelow n (λ p. noSource N (source N v p)) → r ≡ badSource N v
   unfolding badSource
-  there {codes} {sources} t l h n q few r k =
-      k ∙ any-same n (λ p. noSource N (getD sources (3 * v + p) 0)) (λ p. noSource N (source N v p)) (λ p a. ap (noSource N) (source-is N t v p (3 * v + p) l (omega arith) refl))
-      ∙ ap (λ (m : ℕ). anyBelow m (λ p. noSource N (source N v p))) q
-      ∙ sym (ap (λ (b : Bool). b || anyBelow (operands (elementAt N v)) (λ p. noSource N (source N v p))) h)
+  there h n q r k =
+      k ∙ ap (λ (m : ℕ). anyBelow m (λ p. noSource N (source N v p))) q ∙ sym (ap (λ (b : Bool). b || anyBelow (operands (elementAt N v)) (λ p. noSource N (source N v p))) h)

@@ -12,7 +12,7 @@ use Rattle.words.specs.declared.Op.{Op}
 use Rattle.words.specs.declared.Op.the-variants.{Constant, Not, And, Or, Xor, Add, Subtract, Equal, Less, Choose, Part, Join}
 use Rattle.netlist.specs.Net.{Table, noTable, Net, elementAt, widthAt, source, isMemory, tableOf}
 use Rattle.netlist.specs.NodeField.{opNumber}
-use Rattle.nodes.specs.Code.{codeOf}
+use Rattle.circuit.specs.Code.{codeOf, numberOr}
 use Rattle.netlist.specs.Verdict.{opWidths, widthsRight, badWidth}
 use Rattle.netlist.specs.declared.Element.{Element}
 use Rattle.netlist.specs.declared.Element.the-variants.{Input, Output, Register, Async, Clocked, Gate}
@@ -69,7 +69,7 @@ module _ (ts : List Table) (w a b c : ℕ) where
   two-sides : (x y : Bool) → (x && (y && eqb w w)) ≡ (x && y)
   two-sides x y = rw (eqb-self w, and-true y)
 
-  of-op : (o : Op) → (codeOf (Gate o) ≡ 15 → ⊥) → (codeOf (Gate o) ≡ 16 → ⊥) → sides (5 + opNumber o) w a b c ≡ opWidths o w (three a b c)
+  of-op : (o : Op) → (codeOf (Gate o) ≡ 18 → ⊥) → (codeOf (Gate o) ≡ 19 → ⊥) → sides (8 + opNumber o) w a b c ≡ opWidths o w (three a b c)
   of-op (Constant v) g l = rw (eqb-self w)
   of-op Not g l = one-side
   of-op And g l = two-sides (eqb a w) (eqb b w)
@@ -83,7 +83,7 @@ module _ (ts : List Table) (w a b c : ℕ) where
   of-op (Part o) g l = absurd (g refl)
   of-op Join g l = absurd (l refl)
 
-  by-code : (e : Element) → (codeOf e ≡ 3 → ⊥) → (codeOf e ≡ 4 → ⊥) → (codeOf e ≡ 15 → ⊥) → (codeOf e ≡ 16 → ⊥) → sides (codeOf e) w a b c ≡ widthsRight ts e w (three a b c)
+  by-code : (e : Element) → (codeOf e ≡ 3 → ⊥) → (codeOf e ≡ 4 → ⊥) → (codeOf e ≡ 18 → ⊥) → (codeOf e ≡ 19 → ⊥) → sides (codeOf e) w a b c ≡ widthsRight ts e w (three a b c)
   by-code Input d f g l = rw (eqb-self w)
   by-code Output d f g l = one-side
   by-code (Register r) d f g l = one-side
@@ -91,11 +91,11 @@ module _ (ts : List Table) (w a b c : ℕ) where
   by-code (Clocked m r) d f g l = absurd (f refl)
   by-code (Gate o) d f g l = of-op o g l
 
-  pub sided-rule : (e : Element) {n : ℕ} → n ≡ codeOf e → (n ≡ 3 → ⊥) → (n ≡ 4 → ⊥) → (n ≡ 15 → ⊥) → (n ≡ 16 → ⊥) → {z : Bool} → z ≡ sides n w a b c → z ≡ widthsRight ts e w (three a b c)
+  pub sided-rule : (e : Element) {n : ℕ} → n ≡ codeOf e → (n ≡ 3 → ⊥) → (n ≡ 4 → ⊥) → (n ≡ 18 → ⊥) → (n ≡ 19 → ⊥) → {z : Bool} → z ≡ sides n w a b c → z ≡ widthsRight ts e w (three a b c)
   sided-rule e {n} p d f g l q = q ∙ ap (λ (k : ℕ). sides k w a b c) p ∙ by-code e (λ x. d (p ∙ x)) (λ x. f (p ∙ x)) (λ x. g (p ∙ x)) (λ x. l (p ∙ x))
 
 -- a join
-join-op : (o : Op) → 16 ≡ 5 + opNumber o → (w a b c : ℕ) → eqb (a + b) w ≡ opWidths o w (three a b c)
+join-op : (o : Op) → 19 ≡ 8 + opNumber o → (w a b c : ℕ) → eqb (a + b) w ≡ opWidths o w (three a b c)
 join-op Join q w a b c = refl
 join-op (Constant v) q w a b c = absurd (omega arith)
 join-op Not q w a b c = absurd (omega arith)
@@ -109,7 +109,7 @@ join-op Less q w a b c = absurd (omega arith)
 join-op Choose q w a b c = absurd (omega arith)
 join-op (Part l) q w a b c = absurd (omega arith)
 
-pub join-rule : (ts : List Table) (w a b c : ℕ) (e : Element) → 16 ≡ codeOf e → {z : Bool} → z ≡ eqb (a + b) w → z ≡ widthsRight ts e w (three a b c)
+pub join-rule : (ts : List Table) (w a b c : ℕ) (e : Element) → 19 ≡ codeOf e → {z : Bool} → z ≡ eqb (a + b) w → z ≡ widthsRight ts e w (three a b c)
 join-rule ts w a b c Input q r = absurd (omega arith)
 join-rule ts w a b c Output q r = absurd (omega arith)
 join-rule ts w a b c (Register s) q r = absurd (omega arith)
@@ -145,6 +145,28 @@ module _ (ts : List Table) (e : Element) (m : isMemory e ≡ true) {k : ℕ} (q 
       ∙ rom-rule ts e w ws m
 
 -- ---- a part, by its lowest bit
+
+part-op : (o : Op) → 18 ≡ 8 + opNumber o → {x : ℕ} → x ≡ numberOr x (Gate o) → Gate (Part x) ≡ Gate o
+part-op (Part b) q r = ap (λ (k : ℕ). Gate (Part k)) r
+part-op (Constant v) q r = absurd (omega arith)
+part-op Not q r = absurd (omega arith)
+part-op And q r = absurd (omega arith)
+part-op Or q r = absurd (omega arith)
+part-op Xor q r = absurd (omega arith)
+part-op Add q r = absurd (omega arith)
+part-op Subtract q r = absurd (omega arith)
+part-op Equal q r = absurd (omega arith)
+part-op Less q r = absurd (omega arith)
+part-op Choose q r = absurd (omega arith)
+part-op Join q r = absurd (omega arith)
+
+pub part-is : (e : Element) → 18 ≡ codeOf e → {x : ℕ} → x ≡ numberOr x e → Gate (Part x) ≡ e
+part-is Input q r = absurd (omega arith)
+part-is Output q r = absurd (omega arith)
+part-is (Register s) q r = absurd (omega arith)
+part-is (Async m) q r = absurd (omega arith)
+part-is (Clocked m s) q r = absurd (omega arith)
+part-is (Gate o) q r = part-op o q r
 
 pub part-rule : (ts : List Table) {e : Element} {low : ℕ} → Gate (Part low) ≡ e → (w a : ℕ) (ws : ℕ → ℕ) → ws 0 ≡ a → leb (low + w) a ≡ widthsRight ts e w ws
 part-rule ts {e} {low} q w a ws f = sym (ap (leb (low + w)) f) ∙ ap (λ (x : Element). widthsRight ts x w ws) q

@@ -11,16 +11,16 @@ use Rattle.nodes.specs.Code.{packed, unpacked}
 
 -- by code: whether the first source's width counts, and the second's; whether the node compares, and whether it chooses
 abbrev pub firstCounts : List ℕ
-firstCounts = 0 ∷ 1 ∷ 1 ∷ 0 ∷ 0 ∷ 0 ∷ 1 ∷ 1 ∷ 1 ∷ 1 ∷ 1 ∷ 1 ∷ 1 ∷ 1 ∷ 1 ∷ 0 ∷ 0 ∷ []
+firstCounts = 0 ∷ 1 ∷ 1 ∷ 0 ∷ 0 ∷ 0 ∷ 0 ∷ 0 ∷ 0 ∷ 1 ∷ 1 ∷ 1 ∷ 1 ∷ 1 ∷ 1 ∷ 1 ∷ 1 ∷ 1 ∷ 0 ∷ 0 ∷ []
 
 abbrev pub secondCounts : List ℕ
-secondCounts = 0 ∷ 0 ∷ 0 ∷ 0 ∷ 0 ∷ 0 ∷ 0 ∷ 1 ∷ 1 ∷ 1 ∷ 1 ∷ 1 ∷ 0 ∷ 0 ∷ 1 ∷ 0 ∷ 0 ∷ []
+secondCounts = 0 ∷ 0 ∷ 0 ∷ 0 ∷ 0 ∷ 0 ∷ 0 ∷ 0 ∷ 0 ∷ 0 ∷ 1 ∷ 1 ∷ 1 ∷ 1 ∷ 1 ∷ 0 ∷ 0 ∷ 1 ∷ 0 ∷ 0 ∷ []
 
 abbrev pub comparing : List ℕ
-comparing = 0 ∷ 0 ∷ 0 ∷ 0 ∷ 0 ∷ 0 ∷ 0 ∷ 0 ∷ 0 ∷ 0 ∷ 0 ∷ 0 ∷ 1 ∷ 1 ∷ 0 ∷ 0 ∷ 0 ∷ []
+comparing = 0 ∷ 0 ∷ 0 ∷ 0 ∷ 0 ∷ 0 ∷ 0 ∷ 0 ∷ 0 ∷ 0 ∷ 0 ∷ 0 ∷ 0 ∷ 0 ∷ 0 ∷ 1 ∷ 1 ∷ 0 ∷ 0 ∷ 0 ∷ []
 
 abbrev pub choosing : List ℕ
-choosing = 0 ∷ 0 ∷ 0 ∷ 0 ∷ 0 ∷ 0 ∷ 0 ∷ 0 ∷ 0 ∷ 0 ∷ 0 ∷ 0 ∷ 0 ∷ 0 ∷ 1 ∷ 0 ∷ 0 ∷ []
+choosing = 0 ∷ 0 ∷ 0 ∷ 0 ∷ 0 ∷ 0 ∷ 0 ∷ 0 ∷ 0 ∷ 0 ∷ 0 ∷ 0 ∷ 0 ∷ 0 ∷ 0 ∷ 0 ∷ 0 ∷ 1 ∷ 0 ∷ 0 ∷ []
 
 -- one width where a code is listed, another where it is not
 abbrev pub pick : List ℕ → ℕ → ℕ → ℕ → ℕ
@@ -35,14 +35,14 @@ sides code w a b c =
 pub bit-of : (n : ℕ) (l : List ℕ) → T (every (packed 1 n) 0 l) → (k : ℕ) → k < length l → n / 2 ^ k % 2 ≡ getD l k 0
 bit-of n l t k h = ap (λ (j : ℕ). n / 2 ^ j % 2) (let e : k ≡ 1 * k = omega arith in e) ∙ unpacked 1 n l t k h .0
 
-pub first-bits : T (every (packed 1 32710) 0 firstCounts)
+pub first-bits : T (every (packed 1 261638) 0 firstCounts)
 first-bits = tt
 
-pub second-bits : T (every (packed 1 20352) 0 secondCounts)
+pub second-bits : T (every (packed 1 162816) 0 secondCounts)
 second-bits = tt
 
-pub comparing-bits : T (every (packed 1 12288) 0 comparing)
+pub comparing-bits : T (every (packed 1 98304) 0 comparing)
 comparing-bits = tt
 
-pub choosing-bits : T (every (packed 1 16384) 0 choosing)
+pub choosing-bits : T (every (packed 1 131072) 0 choosing)
 choosing-bits = tt

@@ -1,47 +1,34 @@
 // Check 6: no such node or table, or an output port as source.
-use index::wide;
-use nodes::code_sources;
+use circuit::code_of;
+use circuit::node_count;
+use circuit::source_count;
+use circuit::source_of;
+use circuit::table_count;
+use circuit::table_of;
 ghost use mathlib.Core.Path.{_≡_};
-ghost use mathlib.Core.Bool.{true, not};
-ghost use Prim.Native.Nat.{_+_, _<_, _≤_};
-ghost use lib.ListN.{length, getD};
+ghost use mathlib.Core.Bool.{not};
+ghost use Prim.Native.Nat.{_<_, _≤_};
 ghost use Rattle.lists.specs.Lists.{anyBelow, lowest};
-ghost use Rattle.netlist.specs.Net.{elementAt, operands, isMemory, tableOf};
-ghost use Rattle.columns.specs.Columns.{Columns};
+ghost use Rattle.netlist.specs.Net.{Net, size, elementAt, source};
 ghost use Rattle.netlist.specs.Verdict.{tableThere, noSource, badSource};
-ghost use Rattle.netlist.specs.ScanLaws.{Found};
-ghost use Rattle.netlist.specs.File.{netIn};
+ghost use Rattle.circuit.specs.Circuit.{netOf, Circuit};
+ghost use Rattle.circuit.specs.Opened.{opened};
 ghost use Rattle.rules.specs.OrFirst.{OrFirst};
 
-// The number of a ROM's table, which stands in the file.
-pub fn table_of(file: &[u8], tables: &[u16], nodes: &[u16], v: usize) -> usize
-    requires { ⌜ Found (now file) (now tables) (now nodes) × (v < length (now nodes)) × (isMemory (elementAt (netIn (now file) (now tables) (now nodes)) v) ≡ true) ⌝ }
-    ensures { λ r. ⌜ r ≡ tableOf (elementAt (netIn (now (file .entry)) (now (tables .entry)) (now (nodes .entry))) v) ⌝ }
-{
-    let at = wide(nodes[v]);
-    file[at + 7] as usize
-}
-
 // Whether the table of node v is missing. Only a ROM has one, and the code tells the ROMs.
-fn table_missing(
-    file: &[u8],
-    tables: &[u16],
-    nodes: &[u16],
-    v: usize,
-    codes: &[u8],
-    sources: &[u16],
-) -> bool
-    requires { ⌜ Found (now file) (now tables) (now nodes) × (v < length (now nodes)) × Columns (netIn (now file) (now tables) (now nodes)) (now codes) (now sources) (length (now nodes)) ⌝ }
-    ensures { λ r. ⌜ r ≡ not (tableThere (netIn (now (file .entry)) (now (tables .entry)) (now (nodes .entry)) .tables) (elementAt (netIn (now (file .entry)) (now (tables .entry)) (now (nodes .entry))) v)) ⌝ }
+fn table_missing(file: &[u8], net: &[u16], v: usize) -> bool
+    ghost { Net }
+    requires { λ N. opened 𝓤 (now file) (now net) N (v < size N) }
+    ensures { λ N r. ⌜ r ≡ not (tableThere (N .tables) (elementAt N v)) ⌝ }
 {
-    let code = codes[v];
+    let code = code_of(file, net, v);
     if code < 3 {
         return false;
     }
     if 4 < code {
         return false;
     }
-    if table_of(file, tables, nodes, v) < tables.len() {
+    if table_of(file, net, v) < table_count(file, net) {
         false
     } else {
         true
@@ -49,18 +36,16 @@ fn table_missing(
 }
 
 // Whether u is no node, or an output port.
-fn no_source(
-    file: &[u8],
-    tables: &[u16],
-    nodes: &[u16],
-    u: usize,
-    codes: &[u8],
-    sources: &[u16],
-) -> bool
-    requires { ⌜ Found (now file) (now tables) (now nodes) × Columns (netIn (now file) (now tables) (now nodes)) (now codes) (now sources) (length (now nodes)) ⌝ }
-    ensures { λ r. ⌜ r ≡ noSource (netIn (now (file .entry)) (now (tables .entry)) (now (nodes .entry))) u ⌝ }
+fn no_source(file: &[u8], net: &[u16], u: usize) -> bool
+    ghost { Net }
+    requires { λ N. ⌜ netOf (now file) (now net) ≡ N ⌝ ∗ ⌜ Circuit (now file) (now net) ⌝ }
+    ensures { λ N r. ⌜ r ≡ noSource N u ⌝ }
 {
-    if u < nodes.len() { codes[u] == 1 } else { true }
+    if u < node_count(file, net) {
+        code_of(file, net, u) == 1
+    } else {
+        true
+    }
 }
 
 // Source i of n, or the first where there are not so many. How many a node has follows no pattern: to look at the first again is cheaper than a branch.
@@ -70,80 +55,47 @@ pub fn or_first(i: usize, n: usize) -> usize
     if i < n { i } else { 0 }
 }
 
-// Whether one of the n sources from a place on is no source.
-fn any_no_source(
-    file: &[u8],
-    tables: &[u16],
-    nodes: &[u16],
-    from: usize,
-    n: usize,
-    codes: &[u8],
-    sources: &[u16],
-) -> bool
-    requires { ⌜ Found (now file) (now tables) (now nodes) × (n ≤ 3) × (from + 3 ≤ length (now sources)) × Columns (netIn (now file) (now tables) (now nodes)) (now codes) (now sources) (length (now nodes)) ⌝ }
-    ensures { λ r. ⌜ r ≡ anyBelow n (λ p. noSource (netIn (now (file .entry)) (now (tables .entry)) (now (nodes .entry))) (getD (now (sources .entry)) (from + p) 0)) ⌝ }
+// Whether one of the first n sources of node v is no source.
+fn any_no_source(file: &[u8], net: &[u16], v: usize, n: usize) -> bool
+    ghost { Net }
+    requires { λ N. opened 𝓤 (now file) (now net) N ((v < size N) × (n ≤ 3)) }
+    ensures { λ N r. ⌜ r ≡ anyBelow n (λ p. noSource N (source N v p)) ⌝ }
 {
     if n == 0 {
         return false;
     }
-    if no_source(file, tables, nodes, wide(sources[from]), codes, sources) {
+    if no_source(file, net, source_of(file, net, v, 0)) {
         return true;
     }
-    let second = from + or_first(1, n);
-    if no_source(file, tables, nodes, wide(sources[second]), codes, sources) {
+    let second = or_first(1, n);
+    if no_source(file, net, source_of(file, net, v, second)) {
         return true;
     }
-    let third = from + or_first(2, n);
-    no_source(file, tables, nodes, wide(sources[third]), codes, sources)
+    let third = or_first(2, n);
+    no_source(file, net, source_of(file, net, v, third))
 }
 
-// How many sources node v has.
-pub fn count_at(
-    file: &[u8],
-    tables: &[u16],
-    nodes: &[u16],
-    v: usize,
-    codes: &[u8],
-    sources: &[u16],
-) -> usize
-    requires { ⌜ Columns (netIn (now file) (now tables) (now nodes)) (now codes) (now sources) (length (now nodes)) × (v < length (now nodes)) × (v < 1024) ⌝ }
-    ensures { λ r. ⌜ (r ≡ operands (elementAt (netIn (now (file .entry)) (now (tables .entry)) (now (nodes .entry))) v)) × (r ≤ 3) ⌝ }
+fn bad_source(file: &[u8], net: &[u16], v: usize) -> bool
+    ghost { Net }
+    requires { λ N. opened 𝓤 (now file) (now net) N (v < size N) }
+    ensures { λ N r. ⌜ r ≡ badSource N v ⌝ }
 {
-    code_sources(codes[v] as usize)
-}
-
-fn bad_source(
-    file: &[u8],
-    tables: &[u16],
-    nodes: &[u16],
-    v: usize,
-    codes: &[u8],
-    sources: &[u16],
-) -> bool
-    requires { ⌜ Found (now file) (now tables) (now nodes) × (v < length (now nodes)) × Columns (netIn (now file) (now tables) (now nodes)) (now codes) (now sources) (length (now nodes)) ⌝ }
-    ensures { λ r. ⌜ r ≡ badSource (netIn (now (file .entry)) (now (tables .entry)) (now (nodes .entry))) v ⌝ }
-{
-    if table_missing(file, tables, nodes, v, codes, sources) {
+    if table_missing(file, net, v) {
         return true;
     }
-    let n = count_at(file, tables, nodes, v, codes, sources);
-    any_no_source(file, tables, nodes, 3 * v, n, codes, sources)
+    any_no_source(file, net, v, source_count(file, net, v))
 }
 
 // The lowest node that check 6 refuses, or the number of nodes.
-pub fn lowest_bad_source(
-    file: &[u8],
-    tables: &[u16],
-    nodes: &[u16],
-    codes: &[u8],
-    sources: &[u16],
-) -> usize
-    requires { ⌜ Found (now file) (now tables) (now nodes) × Columns (netIn (now file) (now tables) (now nodes)) (now codes) (now sources) (length (now nodes)) ⌝ }
-    ensures { λ r. ⌜ r ≡ lowest (length (now (nodes .entry))) (badSource (netIn (now (file .entry)) (now (tables .entry)) (now (nodes .entry)))) ⌝ }
+pub fn lowest_bad_source(file: &[u8], net: &[u16]) -> usize
+    ghost { Net }
+    requires { λ N. ⌜ netOf (now file) (now net) ≡ N ⌝ ∗ ⌜ Circuit (now file) (now net) ⌝ }
+    ensures { λ N r. ⌜ r ≡ lowest (size N) (badSource N) ⌝ }
 {
+    let n = node_count(file, net);
     let mut v: usize = 0;
-    while v < nodes.len() {
-        if bad_source(file, tables, nodes, v, codes, sources) {
+    while v < n {
+        if bad_source(file, net, v) {
             return v;
         }
         v = v + 1;

@@ -1,35 +1,37 @@
 // Check 7: the width rules.
-use super::sources::table_of;
-use index::address_bits;
-use index::wide;
-use index::word_width;
+use circuit::address_bits;
+use circuit::code_of;
+use circuit::node_count;
+use circuit::number_of;
+use circuit::source_of;
+use circuit::table_of;
+use circuit::width_of;
+use circuit::word_width;
 ghost use mathlib.Core.Path.{_≡_};
 ghost use mathlib.Core.Bool.{true, cond};
 ghost use lib.Dec.{eqb};
-ghost use Prim.Native.Nat.{ℕ, _/_, _%_, _^_, _<_};
-ghost use lib.ListN.{length};
+ghost use Prim.Native.Nat.{ℕ, _/_, _%_, _^_, _<_, _≤_};
 ghost use Rattle.lists.specs.Lists.{lowest};
-ghost use Rattle.netlist.specs.Net.{elementAt, widthAt, isMemory};
-ghost use Rattle.nodes.specs.Code.{codeOf};
-ghost use Rattle.columns.specs.Columns.{Columns, Widths};
+ghost use Rattle.netlist.specs.Net.{Net, size, elementAt, widthAt, isMemory};
 ghost use Rattle.netlist.specs.Verdict.{widthsRight, badWidth};
-ghost use Rattle.netlist.specs.ScanLaws.{Found};
-ghost use Rattle.netlist.specs.File.{netIn};
+ghost use Rattle.circuit.specs.Code.{codeOf};
+ghost use Rattle.circuit.specs.Circuit.{netOf, Circuit};
+ghost use Rattle.circuit.specs.Opened.{opened};
 ghost use Rattle.rules.specs.Three.{three};
 ghost use Rattle.rules.specs.Sides.{sides};
 
 // The codes whose first source's width counts, and whose second's; those that compare, and the one that chooses: a bit for each.
-const FIRST_COUNTS: u64 = 32710;
+const FIRST_COUNTS: u64 = 261638;
 
-const SECOND_COUNTS: u64 = 20352;
+const SECOND_COUNTS: u64 = 162816;
 
-const COMPARING: u64 = 12288;
+const COMPARING: u64 = 98304;
 
-const CHOOSING: u64 = 16384;
+const CHOOSING: u64 = 131072;
 
 // One width where a code's bit is set, another where it is not.
 fn pick(bits: u64, code: usize, x: u8, y: u8) -> u8
-    requires { ⌜ code < 17 ⌝ }
+    requires { ⌜ code < 20 ⌝ }
     ensures { λ r. ⌜ r ≡ cond (eqb (bits / 2 ^ code % 2) 1) x y ⌝ }
 {
     if (bits >> code) % 2 == 1 { x } else { y }
@@ -37,7 +39,7 @@ fn pick(bits: u64, code: usize, x: u8, y: u8) -> u8
 
 // The width rule of a code as three equalities. Codes follow no pattern, so there is no branch on them: what does not count is the node's own width.
 fn same_widths(code: usize, w: u8, a: u8, b: u8, c: u8) -> bool
-    requires { ⌜ code < 17 ⌝ }
+    requires { ⌜ code < 20 ⌝ }
     ensures { λ r. ⌜ r ≡ sides code w a b c ⌝ }
 {
     let first = pick(FIRST_COUNTS, code, a, w);
@@ -53,78 +55,68 @@ fn same_widths(code: usize, w: u8, a: u8, b: u8, c: u8) -> bool
 }
 
 // The width rule of node v, a ROM of width w whose source has width a.
-fn memory_widths(file: &[u8], tables: &[u16], nodes: &[u16], v: usize, w: u8, a: u8) -> bool
-    requires { ⌜ Found (now file) (now tables) (now nodes) × (v < length (now nodes)) × (isMemory (elementAt (netIn (now file) (now tables) (now nodes)) v) ≡ true) ⌝ }
-    ensures { λ r. ⌜ ((ws : ℕ → ℕ) → ws 0 ≡ a → r ≡ widthsRight (netIn (now (file .entry)) (now (tables .entry)) (now (nodes .entry)) .tables) (elementAt (netIn (now (file .entry)) (now (tables .entry)) (now (nodes .entry))) v) w ws) ⌝ }
+fn memory_widths(file: &[u8], net: &[u16], v: usize, w: u8, a: u8) -> bool
+    ghost { Net }
+    requires { λ N. opened 𝓤 (now file) (now net) N ((v < size N) × (isMemory (elementAt N v) ≡ true)) }
+    ensures { λ N r. ⌜ ((ws : ℕ → ℕ) → ws 0 ≡ a → r ≡ widthsRight (N .tables) (elementAt N v) w ws) ⌝ }
 {
-    let k = table_of(file, tables, nodes, v);
-    if a == address_bits(file, tables, nodes, k) {
-        w == word_width(file, tables, nodes, k)
+    let k = table_of(file, net, v);
+    if a == address_bits(file, net, k) {
+        w == word_width(file, net, k)
     } else {
         false
     }
 }
 
-// The width rule of node v, a part of width w whose source has width a. Its lowest bit stands in the file.
-fn part_widths(file: &[u8], tables: &[u16], nodes: &[u16], v: usize, w: u8, a: u8) -> bool
-    requires { ⌜ Found (now file) (now tables) (now nodes) × (v < length (now nodes)) × (15 ≡ codeOf (elementAt (netIn (now file) (now tables) (now nodes)) v)) ⌝ }
-    ensures { λ r. ⌜ ((ws : ℕ → ℕ) → ws 0 ≡ a → r ≡ widthsRight (netIn (now (file .entry)) (now (tables .entry)) (now (nodes .entry)) .tables) (elementAt (netIn (now (file .entry)) (now (tables .entry)) (now (nodes .entry))) v) w ws) ⌝ }
+// The width rule of node v, a part of width w whose source has width a: its number is its lowest bit.
+fn part_widths(file: &[u8], net: &[u16], v: usize, w: u8, a: u8) -> bool
+    ghost { Net }
+    requires { λ N. opened 𝓤 (now file) (now net) N ((v < size N) × (18 ≡ codeOf (elementAt N v))) }
+    ensures { λ N r. ⌜ ((ws : ℕ → ℕ) → ws 0 ≡ a → r ≡ widthsRight (N .tables) (elementAt N v) w ws) ⌝ }
 {
-    let at = wide(nodes[v]);
-    let low = file[at + 8];
-    (low as u32) + (w as u32) <= (a as u32)
+    number_of(file, net, v) + (w as usize) <= (a as usize)
 }
 
 // The width of node u; past the last 1, as the definitions say.
-fn width_of(file: &[u8], tables: &[u16], nodes: &[u16], u: usize, widths: &[u8]) -> u8
-    requires { ⌜ Found (now file) (now tables) (now nodes) × Widths (netIn (now file) (now tables) (now nodes)) (now widths) (length (now nodes)) ⌝ }
-    ensures { λ r. ⌜ r ≡ widthAt (netIn (now (file .entry)) (now (tables .entry)) (now (nodes .entry))) u ⌝ }
+fn width_at(file: &[u8], net: &[u16], u: usize) -> u8
+    ghost { Net }
+    requires { λ N. ⌜ netOf (now file) (now net) ≡ N ⌝ ∗ ⌜ Circuit (now file) (now net) ⌝ }
+    ensures { λ N r. ⌜ r ≡ widthAt N u ⌝ }
 {
-    if u < nodes.len() { widths[u] } else { 1 }
-}
-
-// The width rule of node v by its code.
-fn width_rule(
-    file: &[u8],
-    tables: &[u16],
-    nodes: &[u16],
-    v: usize,
-    code: u8,
-    w: u8,
-    a: u8,
-    b: u8,
-    c: u8,
-) -> bool
-    requires { ⌜ Found (now file) (now tables) (now nodes) × (v < length (now nodes)) × (code ≡ codeOf (elementAt (netIn (now file) (now tables) (now nodes)) v)) ⌝ }
-    ensures { λ r. ⌜ r ≡ widthsRight (netIn (now (file .entry)) (now (tables .entry)) (now (nodes .entry)) .tables) (elementAt (netIn (now (file .entry)) (now (tables .entry)) (now (nodes .entry))) v) w (three a b c) ⌝ }
-{
-    match code {
-        3 => memory_widths(file, tables, nodes, v, w, a),
-        4 => memory_widths(file, tables, nodes, v, w, a),
-        15 => part_widths(file, tables, nodes, v, w, a),
-        // A join.
-        16 => (a as u32) + (b as u32) == (w as u32),
-        _ => same_widths(code as usize, w, a, b, c),
+    if u < node_count(file, net) {
+        width_of(file, net, u) as u8
+    } else {
+        1
     }
 }
 
-fn bad_width(
-    file: &[u8],
-    tables: &[u16],
-    nodes: &[u16],
-    v: usize,
-    codes: &[u8],
-    sources: &[u16],
-    widths: &[u8],
-) -> bool
-    requires { ⌜ Found (now file) (now tables) (now nodes) × (v < length (now nodes)) × Columns (netIn (now file) (now tables) (now nodes)) (now codes) (now sources) (length (now nodes)) × Widths (netIn (now file) (now tables) (now nodes)) (now widths) (length (now nodes)) ⌝ }
-    ensures { λ r. ⌜ r ≡ badWidth (netIn (now (file .entry)) (now (tables .entry)) (now (nodes .entry))) v ⌝ }
+// The width rule of node v by its code.
+fn width_rule(file: &[u8], net: &[u16], v: usize, w: u8, a: u8, b: u8, c: u8) -> bool
+    ghost { Net }
+    requires { λ N. opened 𝓤 (now file) (now net) N (v < size N) }
+    ensures { λ N r. ⌜ r ≡ widthsRight (N .tables) (elementAt N v) w (three a b c) ⌝ }
 {
-    let from = 3 * v;
-    let a = width_of(file, tables, nodes, wide(sources[from]), widths);
-    let b = width_of(file, tables, nodes, wide(sources[from + 1]), widths);
-    let c = width_of(file, tables, nodes, wide(sources[from + 2]), widths);
-    if width_rule(file, tables, nodes, v, codes[v], widths[v], a, b, c) {
+    let code = code_of(file, net, v);
+    match code {
+        3 => memory_widths(file, net, v, w, a),
+        4 => memory_widths(file, net, v, w, a),
+        18 => part_widths(file, net, v, w, a),
+        // A join.
+        19 => (a as u32) + (b as u32) == (w as u32),
+        _ => same_widths(code, w, a, b, c),
+    }
+}
+
+fn bad_width(file: &[u8], net: &[u16], v: usize) -> bool
+    ghost { Net }
+    requires { λ N. opened 𝓤 (now file) (now net) N (v < size N) }
+    ensures { λ N r. ⌜ r ≡ badWidth N v ⌝ }
+{
+    let a = width_at(file, net, source_of(file, net, v, 0));
+    let b = width_at(file, net, source_of(file, net, v, 1));
+    let c = width_at(file, net, source_of(file, net, v, 2));
+    let w = width_at(file, net, v);
+    if width_rule(file, net, v, w, a, b, c) {
         false
     } else {
         true
@@ -132,20 +124,15 @@ fn bad_width(
 }
 
 // The lowest node that check 7 refuses, or the number of nodes.
-pub fn lowest_bad_width(
-    file: &[u8],
-    tables: &[u16],
-    nodes: &[u16],
-    codes: &[u8],
-    sources: &[u16],
-    widths: &[u8],
-) -> usize
-    requires { ⌜ Found (now file) (now tables) (now nodes) × Columns (netIn (now file) (now tables) (now nodes)) (now codes) (now sources) (length (now nodes)) × Widths (netIn (now file) (now tables) (now nodes)) (now widths) (length (now nodes)) ⌝ }
-    ensures { λ r. ⌜ r ≡ lowest (length (now (nodes .entry))) (badWidth (netIn (now (file .entry)) (now (tables .entry)) (now (nodes .entry)))) ⌝ }
+pub fn lowest_bad_width(file: &[u8], net: &[u16]) -> usize
+    ghost { Net }
+    requires { λ N. ⌜ netOf (now file) (now net) ≡ N ⌝ ∗ ⌜ Circuit (now file) (now net) ⌝ }
+    ensures { λ N r. ⌜ r ≡ lowest (size N) (badWidth N) ⌝ }
 {
+    let n = node_count(file, net);
     let mut v: usize = 0;
-    while v < nodes.len() {
-        if bad_width(file, tables, nodes, v, codes, sources, widths) {
+    while v < n {
+        if bad_width(file, net, v) {
             return v;
         }
         v = v + 1;

@@ -15,8 +15,7 @@ use Rattle.evaluate.specs.Rows.{rowTest, rowMembers, rowOf, RowFits, Loaded}
 use Rattle.evaluate.specs.Clock.{clockWords, Evaluated}
 use Rattle.evaluate.specs.Settling.{clock-fits}
 use Rattle.evaluate.specs.declared.Row.the-variants.{Inputs, Outputs, State}
-use Rattle.run.specs.Next.{WordsFit}
-use Rattle.run.proofs.NextWords.{holder-reads}
+use Rattle.evaluate.specs.Next.{WordsFit, holder-reads}
 
 -- no input port has a word in the state
 apart : (e : Element) → isInput e ≡ true → holdsWord e ≡ false

@@ -2,9 +2,10 @@
 use mathlib.Core.Path.{_≡_, refl, sym, ap, _∙_}
 use mathlib.Core.Bool.{Bool, true, false, cond, _&&_}
 use mathlib.Core.List.{List}
-use Prim.Native.Nat.{ℕ, _*_}
+use Prim.Native.Nat.{ℕ, _*_, _≤_}
 use native.Mathlib.Omega.{arith}
-use lib.ListN.{length}
+use lib.ListN.{length, take}
+use lib.Seq.{length-take-le}
 use borrow.Author.Tests.{eq-eqb, ne-eqb}
 use Rattle.lists.specs.BelowLaws.{and-left, eqb-true}
 use Rattle.lists.specs.ListsLaws.{length-select}
@@ -27,9 +28,17 @@ ran e = (sym (ap (λ (r : Ran). r .answer) e), sym (ap (λ (r : Ran). r .state) 
 
 -- ---- a row's length
 
-module _ (N : Net) (row : Row) {members : List ℕ} (e : members ≡ rowMembers row N) {k : ℕ} (n : k ≡ length members) (b : List ℕ) where
+-- a part has the length that it is cut to
+pub counted : {k : ℕ} (l : List ℕ) → k ≤ length l → k ≡ length (take k l)
+counted {k} l h = sym (length-take-le k l h)
+
+pub row-bytes : {n k : ℕ} (l : List ℕ) → k ≤ length l → n ≡ 2 * k → n ≡ 2 * length (take k l)
+row-bytes l h e = e ∙ ap (2 *_) (counted l h)
+
+-- the first k of a work area are a row's members
+module _ (N : Net) (row : Row) {k : ℕ} (l : List ℕ) (m : (take k l ≡ rowMembers row N) × (k ≤ length l)) (b : List ℕ) where
   words : length (rowWidths row N) ≡ k
-  words = length-select (rowTest row N) (λ v. widthAt N v) (size N) ∙ sym (n ∙ members-count (rowTest row N) (size N) e)
+  words = length-select (rowTest row N) (λ v. widthAt N v) (size N) ∙ sym (counted l (m .1) ∙ members-count (rowTest row N) (size N) (m .0))
 
   pub row-room : length b ≡ 2 * k → roomFor (rowWidths row N) b ≡ true
   row-room h = eq-eqb (length b) (2 * length (rowWidths row N)) (omega (arith, words))

@@ -1,31 +1,30 @@
 // The reset service and the run of one clock, on the bytes that a host lends. Nothing is written before every check is passed.
 use areas::number_at;
-use checks::open_columns;
+use checks::open_file;
+use circuit::number_of;
+use circuit::wide;
 use evaluate::Row;
 use evaluate::evaluate;
 use evaluate::lent::load_row;
 use evaluate::lent::row_members;
-use evaluate::memory_word;
-use index::node;
-use index::wide;
+use evaluate::next_word;
 use netlist::Answer;
-use netlist::Element;
-use netlist::Scanned;
+use netlist::Verdict;
 ghost use mathlib.Core.Path.{_≡_};
 ghost use mathlib.Core.Bool.{true};
 ghost use mathlib.Core.List.{map};
 ghost use Prim.Native.Nat.{_+_, _*_, _/_, _%_, _<_};
 ghost use lib.ListN.{length, getD, set};
-ghost use Rattle.netlist.specs.Net.{inClock};
+ghost use Rattle.netlist.specs.Net.{Net, size, elementAt, inClock};
 ghost use Rattle.netlist.specs.Checks.{WellFormed};
-ghost use Rattle.netlist.specs.ScanLaws.{Found};
-ghost use Rattle.netlist.specs.File.{netIn};
-ghost use Rattle.columns.specs.Columns.{Columns, Widths};
-ghost use Rattle.order.specs.Order.{Complete};
+ghost use Rattle.circuit.specs.Circuit.{orderOf, netOf, Circuit};
+ghost use Rattle.circuit.specs.Opened.{opened};
+ghost use Rattle.circuit.specs.Order.{Complete};
 ghost use Rattle.behaviour.specs.Run.{holds-first, resetState, nextState};
 ghost use Rattle.behaviour.specs.Service.{bytesOf, wordsIn, resetNet, resetFile, runNet, runFile};
 ghost use Rattle.evaluate.specs.Rows.{rowTest, rowMembers};
-ghost use Rattle.run.specs.Next.{nextWord, WordsFit};
+ghost use Rattle.evaluate.specs.Clock.{Inside};
+ghost use Rattle.evaluate.specs.Next.{WordsFit};
 
 // Writes a word, high byte first.
 fn put_word(out: &mut [u8], at: usize, w: u16)
@@ -38,61 +37,38 @@ fn put_word(out: &mut [u8], at: usize, w: u16)
 
 // ---- reset
 
-// The word that an element holds after reset.
-pub fn reset_word(e: Element) -> u16
-    ensures { λ r. ⌜ r ≡ holds-first e ⌝ }
+// The word that a register or a clocked ROM holds after reset.
+fn reset_word(file: &[u8], net: &[u16], v: usize) -> u16
+    ghost { Net }
+    requires { λ N. opened 𝓤 (now file) (now net) N ((v < size N) × (rowTest Row.State N v ≡ true)) }
+    ensures { λ N r. ⌜ r ≡ holds-first (elementAt N v) ⌝ }
 {
-    match e {
-        Element::Input => 0,
-        Element::Output => 0,
-        Element::Register(reset) => reset,
-        Element::Async(_) => 0,
-        Element::Clocked(_, reset) => reset,
-        Element::Gate(_) => 0,
-    }
+    number_of(file, net, v) as u16
 }
 
 // Fills a state with the reset words.
-fn store_reset(file: &[u8], tables: &[u16], nodes: &[u16], members: &[u16], state: &mut [u8])
-    requires { ⌜ Found (now file) (now tables) (now nodes)
-        × (now members ≡ rowMembers Row.State (netIn (now file) (now tables) (now nodes))) × (length (now state) ≡ 2 * length (now members)) ⌝ }
-    ensures { λ _. ⌜ now (state .exit) ≡ bytesOf (resetState (netIn (now (file .entry)) (now (tables .entry)) (now (nodes .entry)))) ⌝ }
+fn store_reset(file: &[u8], net: &[u16], members: &[u16], state: &mut [u8])
+    ghost { Net }
+    requires { λ N. opened 𝓤 (now file) (now net) N ((now members ≡ rowMembers Row.State N) × (length (now state) ≡ 2 * length (now members))) }
+    ensures { λ N _. ⌜ now (state .exit) ≡ bytesOf (resetState N) ⌝ }
 {
     let mut i: usize = 0;
     while i < members.len() {
-        let x = node(file, tables, nodes, wide(members[i]));
-        let e = x.element;
-        put_word(state, 2 * i, reset_word(e));
+        put_word(state, 2 * i, reset_word(file, net, wide(members[i])));
         i = i + 1;
     }
 }
 
 // The reset service over an opened file: 16 where the state's length does not fit.
-fn reset_opened(
-    file: &[u8],
-    tables: &[u16],
-    nodes: &[u16],
-    state: &mut [u8],
-    codes: &[u8],
-    sources: &[u16],
-) -> Answer
-    requires { ⌜ Found (now file) (now tables) (now nodes)
-        × Columns (netIn (now file) (now tables) (now nodes)) (now codes) (now sources) (length (now nodes)) ⌝ }
-    ensures { λ r. ⌜ (r ≡ resetNet (netIn (now (file .entry)) (now (tables .entry)) (now (nodes .entry))) (now (state .entry)) .answer)
-        × (now (state .exit) ≡ resetNet (netIn (now (file .entry)) (now (tables .entry)) (now (nodes .entry))) (now (state .entry)) .state) ⌝ }
+fn reset_opened(file: &[u8], net: &[u16], state: &mut [u8]) -> Answer
+    ghost { Net }
+    requires { λ N. ⌜ netOf (now file) (now net) ≡ N ⌝ ∗ ⌜ Circuit (now file) (now net) ⌝ }
+    ensures { λ N r. ⌜ (r ≡ resetNet N (now (state .entry)) .answer) × (now (state .exit) ≡ resetNet N (now (state .entry)) .state) ⌝ }
 {
     let mut members = [0u16; 1024];
-    let count = row_members(
-        file,
-        tables,
-        nodes,
-        Row::State,
-        &mut members,
-        codes,
-        sources,
-    );
+    let count = row_members(file, net, Row::State, &mut members);
     if state.len() == 2 * count {
-        store_reset(file, tables, nodes, &members[..count], state);
+        store_reset(file, net, &members[..count], state);
         Answer::Accepted(state.len())
     } else {
         Answer::Refused(16, 65535)
@@ -101,54 +77,17 @@ fn reset_opened(
 
 // ---- run
 
-// The word that a register or a clocked ROM holds after the clock: its source's, or the table's word at its source's.
-pub fn next_word(
-    file: &[u8],
-    tables: &[u16],
-    nodes: &[u16],
-    v: usize,
-    words: &[u16],
-    codes: &[u8],
-    sources: &[u16],
-) -> u16
-    requires { ⌜ Found (now file) (now tables) (now nodes) × WellFormed (netIn (now file) (now tables) (now nodes)) × (v < length (now nodes))
-        × (rowTest Row.State (netIn (now file) (now tables) (now nodes)) v ≡ true) × WordsFit (netIn (now file) (now tables) (now nodes)) (now words)
-        × Columns (netIn (now file) (now tables) (now nodes)) (now codes) (now sources) (length (now nodes)) ⌝ }
-    ensures { λ r. ⌜ r ≡ nextWord (netIn (now (file .entry)) (now (tables .entry)) (now (nodes .entry))) (now (words .entry)) v ⌝ }
-{
-    let word = number_at(words, wide(sources[3 * v]));
-    if codes[v] == 2 {
-        word
-    } else {
-        memory_word(file, tables, nodes, v, word)
-    }
-}
-
 // Puts the next state in the state's place. The words of the clock stay as they are, so no register sees another's new word.
-fn store_state(
-    file: &[u8],
-    tables: &[u16],
-    nodes: &[u16],
-    members: &[u16],
-    words: &[u16],
-    state: &mut [u8],
-    codes: &[u8],
-    sources: &[u16],
-)
-    requires { ⌜ Found (now file) (now tables) (now nodes) × WellFormed (netIn (now file) (now tables) (now nodes))
-        × (now members ≡ rowMembers Row.State (netIn (now file) (now tables) (now nodes))) × (length (now state) ≡ 2 * length (now members))
-        × WordsFit (netIn (now file) (now tables) (now nodes)) (now words)
-        × Columns (netIn (now file) (now tables) (now nodes)) (now codes) (now sources) (length (now nodes)) ⌝ }
-    ensures { λ _. ⌜ now (state .exit) ≡ bytesOf (nextState (netIn (now (file .entry)) (now (tables .entry)) (now (nodes .entry))) (wordsIn (now (state .entry))) (now (words .entry))) ⌝ }
+fn store_state(file: &[u8], net: &[u16], members: &[u16], words: &[u16], state: &mut [u8])
+    ghost { Net }
+    requires { λ N. opened 𝓤 (now file) (now net) N (WellFormed N × (now members ≡ rowMembers Row.State N) × (length (now state) ≡ 2 * length (now members))
+        × WordsFit N (now words)) }
+    ensures { λ N _. ⌜ now (state .exit) ≡ bytesOf (nextState N (wordsIn (now (state .entry))) (now (words .entry))) ⌝ }
 {
     let mut k: usize = 0;
     while k < members.len() {
         let v = wide(members[k]);
-        put_word(
-            state,
-            2 * k,
-            next_word(file, tables, nodes, v, words, codes, sources),
-        );
+        put_word(state, 2 * k, next_word(file, net, v, words));
         k = k + 1;
     }
 }
@@ -168,88 +107,29 @@ fn store_words(members: &[u16], words: &[u16], out: &mut [u8])
 // A run over an opened file: 15, then 16, and only then a write.
 fn run_opened(
     file: &[u8],
-    tables: &[u16],
-    nodes: &[u16],
-    order: &[u16],
+    net: &[u16],
     state: &mut [u8],
     inputs: &[u8],
     outputs: &mut [u8],
-    codes: &[u8],
-    sources: &[u16],
-    widths: &[u8],
 ) -> Answer
-    requires { ⌜ Found (now file) (now tables) (now nodes) × WellFormed (netIn (now file) (now tables) (now nodes))
-        × Complete inClock (netIn (now file) (now tables) (now nodes)) (now order)
-        × Columns (netIn (now file) (now tables) (now nodes)) (now codes) (now sources) (length (now nodes))
-        × Widths (netIn (now file) (now tables) (now nodes)) (now widths) (length (now nodes)) ⌝ }
-    ensures { λ r. ⌜ (r ≡ runNet (netIn (now (file .entry)) (now (tables .entry)) (now (nodes .entry))) (now (state .entry)) (now (inputs .entry)) (now (outputs .entry)) .answer)
-        × (now (state .exit) ≡ runNet (netIn (now (file .entry)) (now (tables .entry)) (now (nodes .entry))) (now (state .entry)) (now (inputs .entry)) (now (outputs .entry)) .state)
-        × (now (outputs .exit) ≡ runNet (netIn (now (file .entry)) (now (tables .entry)) (now (nodes .entry))) (now (state .entry)) (now (inputs .entry)) (now (outputs .entry)) .outputs) ⌝ }
+    ghost { Net }
+    requires { λ N. opened 𝓤 (now file) (now net) N (WellFormed N × Inside N × Complete inClock N (orderOf (now net))) }
+    ensures { λ N r. ⌜ (r ≡ runNet N (now (state .entry)) (now (inputs .entry)) (now (outputs .entry)) .answer)
+        × (now (state .exit) ≡ runNet N (now (state .entry)) (now (inputs .entry)) (now (outputs .entry)) .state)
+        × (now (outputs .exit) ≡ runNet N (now (state .entry)) (now (inputs .entry)) (now (outputs .entry)) .outputs) ⌝ }
 {
     let mut words = [0u16; 1024];
     let mut ports = [0u16; 1024];
     let mut holders = [0u16; 1024];
-    let n = row_members(file, tables, nodes, Row::Inputs, &mut ports, codes, sources);
-    if load_row(
-        file,
-        tables,
-        nodes,
-        Row::Inputs,
-        inputs,
-        &ports[..n],
-        &mut words,
-        widths,
-    ) {
-        let m = row_members(
-            file,
-            tables,
-            nodes,
-            Row::Outputs,
-            &mut ports,
-            codes,
-            sources,
-        );
+    let n = row_members(file, net, Row::Inputs, &mut ports);
+    if load_row(file, net, Row::Inputs, inputs, &ports[..n], &mut words) {
+        let m = row_members(file, net, Row::Outputs, &mut ports);
         if outputs.len() == 2 * m {
-            let k = row_members(
-                file,
-                tables,
-                nodes,
-                Row::State,
-                &mut holders,
-                codes,
-                sources,
-            );
-            if load_row(
-                file,
-                tables,
-                nodes,
-                Row::State,
-                state,
-                &holders[..k],
-                &mut words,
-                widths,
-            ) {
-                evaluate(
-                    file,
-                    tables,
-                    nodes,
-                    order,
-                    &mut words,
-                    codes,
-                    sources,
-                    widths,
-                );
+            let k = row_members(file, net, Row::State, &mut holders);
+            if load_row(file, net, Row::State, state, &holders[..k], &mut words) {
+                evaluate(file, net, &mut words);
                 store_words(&ports[..m], &words, outputs);
-                store_state(
-                    file,
-                    tables,
-                    nodes,
-                    &holders[..k],
-                    &words,
-                    state,
-                    codes,
-                    sources,
-                );
+                store_state(file, net, &holders[..k], &words, state);
                 Answer::Accepted(outputs.len())
             } else {
                 Answer::Refused(16, 65535)
@@ -269,30 +149,10 @@ pub fn reset_state(file: &[u8], state: &mut [u8]) -> Answer
     ensures { λ r. ⌜ (r ≡ resetFile (now (file .entry)) (now (state .entry)) .answer)
         × (now (state .exit) ≡ resetFile (now (file .entry)) (now (state .entry)) .state) ⌝ }
 {
-    let mut tables = [0u16; 16];
-    let mut nodes = [0u16; 1024];
-    let mut order = [0u16; 1024];
-    let mut codes = [0u8; 1024];
-    let mut widths = [0u8; 1024];
-    let mut sources = [0u16; 3072];
-    match open_columns(
-        file,
-        &mut tables,
-        &mut nodes,
-        &mut order,
-        &mut codes,
-        &mut widths,
-        &mut sources,
-    ) {
-        Scanned::Refuse(number, place) => Answer::Refused(number, place),
-        Scanned::Fields(t, n) => reset_opened(
-            file,
-            &tables[..t],
-            &nodes[..n],
-            state,
-            &codes,
-            &sources,
-        ),
+    let mut net = [0u16; 10304];
+    match open_file(file, &mut net) {
+        Verdict::Refuses(number, place) => Answer::Refused(number, place),
+        Verdict::Fine => reset_opened(file, &net, state),
     }
 }
 
@@ -302,35 +162,9 @@ pub fn run_clock(file: &[u8], state: &mut [u8], inputs: &[u8], outputs: &mut [u8
         × (now (state .exit) ≡ runFile (now (file .entry)) (now (state .entry)) (now (inputs .entry)) (now (outputs .entry)) .state)
         × (now (outputs .exit) ≡ runFile (now (file .entry)) (now (state .entry)) (now (inputs .entry)) (now (outputs .entry)) .outputs) ⌝ }
 {
-    let mut tables = [0u16; 16];
-    let mut nodes = [0u16; 1024];
-    let mut order = [0u16; 1024];
-    let mut codes = [0u8; 1024];
-    let mut widths = [0u8; 1024];
-    let mut sources = [0u16; 3072];
-    match open_columns(
-        file,
-        &mut tables,
-        &mut nodes,
-        &mut order,
-        &mut codes,
-        &mut widths,
-        &mut sources,
-    ) {
-        Scanned::Refuse(number, place) => Answer::Refused(number, place),
-        Scanned::Fields(t, n) => {
-            run_opened(
-                file,
-                &tables[..t],
-                &nodes[..n],
-                &order,
-                state,
-                inputs,
-                outputs,
-                &codes,
-                &sources,
-                &widths,
-            )
-        }
+    let mut net = [0u16; 10304];
+    match open_file(file, &mut net) {
+        Verdict::Refuses(number, place) => Answer::Refused(number, place),
+        Verdict::Fine => run_opened(file, &net, state, inputs, outputs),
     }
 }

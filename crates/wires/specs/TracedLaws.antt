@@ -7,13 +7,11 @@ use Prim.Native.Nat.{ℕ, zero, suc, _+_, _-_, _*_, _≤_, _<_, zero-le}
 use native.Mathlib.Decide.{ℕ-discrete}
 use native.Mathlib.Omega.{arith}
 use lib.ListN.{length, getD, set}
-use lib.Dec.{lit<}
 use lib.Seq.{getD-set-same, getD-set-other}
 use borrow.Author.Count.{below-more}
 use Rattle.lists.specs.Lists.{one}
 use Rattle.lists.specs.BelowLaws.{true-or-false}
 use Rattle.netlist.specs.Net.{Net, size, elementAt, source, isRegister, Sourced}
-use Rattle.columns.specs.Columns.{Columns, source-is}
 use Rattle.retiming.specs.Rewrite.{passedIn, root, passed}
 use Rattle.retiming.specs.Wires.{behind, ringless-rooted, wire-next, wire-none}
 use Rattle.wires.specs.Traced.{Ringless, Traced, Waits, HalfTraced, MoreTraced}
@@ -36,9 +34,6 @@ pub record Back (N : Net) (v u k : ℕ) : Type 0 where
   pub same-root : root N v ≡ root N u
   pub more : passed N v ≡ k + passed N u
 
-pub back-none : {N : Net} {v : ℕ} → v < size N → Back N v v 0
-back-none h = record { inside = h; same-root = refl; more = omega arith }
-
 pub back-more : {N : Net} {v u s k : ℕ} → Back N v u k → Back N u s 1 → Back N v s (k + 1)
 back-more a b = record { inside = b .inside; same-root = a .same-root ∙ b .same-root; more = omega (arith, a .more, b .more) }
 
@@ -50,13 +45,10 @@ pub record Written (roots passes more through : List ℕ) (v x y : ℕ) : Type 0
   pub pass-room : v < length passes
 
 module _ (N : Net) where
-  -- from a register to its source, as the columns have it
-  back-one : Sourced N → Ringless N → {codes reads : List ℕ} {n u s : ℕ} → Columns N codes reads n → u < n → u < size N → isRegister (elementAt N u) ≡ true → s ≡ getD reads (3 * u) 0 → Back N u s 1
-  back-one sourced none {u = u} {s} t l h r e = told (wire-next N (ringless-rooted N sourced none) u h r)
+  -- from a register to its source
+  back-one : Sourced N → Ringless N → {u s : ℕ} → u < size N → isRegister (elementAt N u) ≡ true → s ≡ source N u 0 → Back N u s 1
+  back-one sourced none {u} {s} h r is = told (wire-next N (ringless-rooted N sourced none) u h r)
     where
-      is : s ≡ source N u 0
-      is = e ∙ source-is N t u 0 (3 * u) l (lit< tt) (omega arith)
-
       told : (root N u ≡ root N (source N u 0)) × (passed N u ≡ suc (passed N (source N u 0))) → Back N u s 1
       told (p, q) = record {
         inside = subst (λ (v : ℕ). v < size N) (sym is) (behind N sourced u h r);
@@ -71,8 +63,8 @@ module _ (N : Net) where
     traced-already d = ⊎-elim (λ a. a) (λ a. absurd (d (a .mark))) (t .each u h)
 
     -- a node with the mark is a register
-    pub back-waiting : Sourced N → Ringless N → {codes reads : List ℕ} {n s : ℕ} → Columns N codes reads n → size N ≡ n → n ≤ 1024 → getD passes u 0 ≡ 65535 → s ≡ getD reads (3 * u) 0 → Back N u s 1
-    back-waiting sourced none k z few m e = back-one sourced none k (omega arith) h (⊎-elim (λ a. absurd (omega (arith, a .through, passed-few N u))) (λ a. a .register) (t .each u h)) e
+    pub back-waiting : Sourced N → Ringless N → size N ≤ 1024 → {s : ℕ} → getD passes u 0 ≡ 65535 → s ≡ source N u 0 → Back N u s 1
+    back-waiting sourced none few m e = back-one sourced none h (⊎-elim (λ a. absurd (omega (arith, a .through, passed-few N u))) (λ a. a .register) (t .each u h)) e
 
   pub half-less : {roots passes : List ℕ} {n m : ℕ} → HalfTraced N roots passes n → m ≤ n → HalfTraced N roots passes m
   half-less t l = record { each = λ s h. t .each s (omega arith) }

@@ -1,17 +1,17 @@
 -- The wires of each ROM, linked from one to the next in two work areas. Assumes nothing.
-use mathlib.Core.Path.{_≡_, refl, sym, ap, ap₂, subst, _∙_}
+use mathlib.Core.Path.{_≡_, refl, sym, ap, subst, _∙_}
 use mathlib.Core.Logic.{⊎-elim}
-use mathlib.Core.Bool.{true, false}
+use mathlib.Core.Bool.{true}
 use mathlib.Core.List.{List}
-use Prim.Native.Nat.{ℕ, suc, _+_, _*_, _≤_, _<_}
+use Prim.Native.Nat.{ℕ, _+_, _*_, _≤_, _<_}
 use native.Mathlib.Decide.{ℕ-discrete}
 use native.Mathlib.Omega.{arith}
 use lib.ListN.{length, getD, set, replicate, getD-replicate}
 use lib.Seq.{getD-set-same, getD-set-other}
 use Rattle.lists.specs.BelowLaws.{true-or-false}
 use Rattle.netlist.specs.Net.{Net, size, elementAt, isMemory}
-use Rattle.retiming.specs.Rewrite.{root, memoryAt}
-use Rattle.wiring.specs.Wiring.{sourceOf, wireAt, WiredTo}
+use Rattle.retiming.specs.Rewrite.{memoryAt}
+use Rattle.wiring.specs.Wiring.{wireAt, WiredTo}
 
 -- r is the first wire from k on that ends at u, or there is none
 pub record From (ends : List ℕ) (wires u k r : ℕ) : Type 0 where

@@ -1,29 +1,26 @@
 -- Wires counted and entered, over plain values. Assumes nothing.
 use mathlib.Core.Path.{_≡_, refl, sym, ap, ap₂, subst, _∙_}
-use mathlib.Core.Logic.{_⊎_, inl, inr, ⊎-elim}
-use mathlib.Core.Bool.{Bool, true, false, cond, true≢false}
+use mathlib.Core.Logic.{_⊎_, ⊎-elim}
+use mathlib.Core.Bool.{Bool, true, false, cond, true≢false, false≢true}
 use mathlib.Core.List.{List}
 use Prim.Native.Nat.{ℕ, suc, _+_, _-_, _*_, _/_, _%_, _≤_, _<_}
 use native.Mathlib.Nat.{le-refl}
 use native.Mathlib.Omega.{arith}
 use lib.ListN.{length, getD, set, replicate, getD-replicate}
 use lib.Seq.{getD-set-same, getD-set-other}
-use lib.Dec.{eqb, ltb}
+use lib.Dec.{ltb}
 use borrow.Author.Tests.{lt-ltb, le-ltb, ltb-true}
 use Rattle.lists.specs.Lists.{one, countBelow}
-use Rattle.lists.specs.BelowLaws.{lt-suc-split, lt-or-le, countBelow-le, true-or-false}
+use Rattle.lists.specs.BelowLaws.{lt-suc-split, lt-or-le, countBelow-le}
 use Rattle.netlist.specs.declared.Element.{Element}
 use Rattle.netlist.specs.declared.Element.the-variants.{Input, Output, Register, Async, Clocked, Gate}
-use Rattle.netlist.specs.Net.{Net, size, elementAt, source, operands, isAsync, isMemory, isClocked, Sourced}
-use Rattle.netlist.specs.NodeLaws.{few-operands}
-use Rattle.nodes.specs.Code.{codeOf, sourcesByCode, code-sources}
-use Rattle.columns.specs.Kinds.{code-memory, bit-true, bit-false}
+use Rattle.netlist.specs.Net.{Net, size, elementAt, source, operands, isRegister, isAsync, isMemory, isClocked, Sourced}
 use Rattle.retiming.specs.Leads.{lead}
 use Rattle.retiming.specs.AtMostRoms.{romCount, lead-at-most-roms}
 use Rattle.retiming.specs.Rewrite.{root, passed, ownHere, memoryAt}
 use Rattle.retiming.specs.Wires.{root-within}
 use Rattle.wires.specs.TracedLaws.{passed-few}
-use Rattle.wiring.specs.Wiring.{Ready, countFrom, wiresTo, readerOf, sourceOf, wireAt, lastClock, Wired, Unwired, WiredTo}
+use Rattle.wiring.specs.Wiring.{Ready, countFrom, wiresTo, sourceOf, wireAt, lastClock, Wired, Unwired, WiredTo}
 
 pub wires-few : (e : Element) → wiresTo e ≤ operands e
 wires-few Input = omega arith
@@ -33,7 +30,7 @@ wires-few (Async m) = le-refl _
 wires-few (Clocked m r) = le-refl _
 wires-few (Gate o) = le-refl _
 
-one-few : (b : Bool) → one b ≤ 1
+pub one-few : (b : Bool) → one b ≤ 1
 one-few true = omega arith
 one-few false = omega arith
 
@@ -79,49 +76,53 @@ module _ {N : Net} {ends froms clocks : List ℕ} {k : ℕ} (w : WiredTo N ends 
     ahead = λ j l d. w .ahead j (omega arith) d;
   }
 
-  module _ (a : length ends ≡ 3072) (d : length clocks ≡ 3072) (h : k < 3072) {end clock at : ℕ} (g : wireAt N k ≡ true)
-      (e : end ≡ root N (sourceOf N k)) (f : getD froms k 0 ≡ sourceOf N k) (c : clock ≡ lastClock N k) (small : clock < 65535)
+  module _ (a : length ends ≡ 3072) (b : length froms ≡ 3072) (d : length clocks ≡ 3072) (h : k < 3072) {end from clock at : ℕ} (g : wireAt N k ≡ true)
+      (e : end ≡ root N (sourceOf N k)) (f : from ≡ sourceOf N k) (c : clock ≡ lastClock N k) (small : clock < 65535)
       (r : at ≡ cond (memoryAt N (root N (sourceOf N k))) clock 65535) where
     abbrev ends′ : List ℕ
     ends′ = set ends k end
 
+    abbrev froms′ : List ℕ
+    froms′ = set froms k from
+
     abbrev clocks′ : List ℕ
     clocks′ = set clocks k at
 
-    here : Wired N ends′ froms clocks′ k
+    here : Wired N ends′ froms′ clocks′ k
     here = record {
       end = getD-set-same ends k end 0 (omega arith) ∙ e;
-      from = f;
+      from = getD-set-same froms k from 0 (omega arith) ∙ f;
       early = omega (arith, c);
       rom = λ m. getD-set-same clocks k at 0 (omega arith) ∙ r ∙ ap (λ (z : Bool). cond z clock 65535) m ∙ c;
       other = λ m. getD-set-same clocks k at 0 (omega arith) ∙ r ∙ ap (λ (z : Bool). cond z clock 65535) m;
     }
 
-    still : (j : ℕ) → j < k → Wired N ends froms clocks j → Wired N ends′ froms clocks′ j
+    still : (j : ℕ) → j < k → Wired N ends froms clocks j → Wired N ends′ froms′ clocks′ j
     still j l y = record {
       end = getD-set-other ends k j end 0 (λ q. omega arith) ∙ y .end;
-      from = y .from;
+      from = getD-set-other froms k j from 0 (λ q. omega arith) ∙ y .from;
       early = y .early;
       rom = λ m. getD-set-other clocks k j at 0 (λ q. omega arith) ∙ y .rom m;
       other = λ m. getD-set-other clocks k j at 0 (λ q. omega arith) ∙ y .other m;
     }
 
-    none : (j : ℕ) → (j ≡ k → ⊥) → Unwired N ends froms clocks j → Unwired N ends′ froms clocks′ j
+    none : (j : ℕ) → (j ≡ k → ⊥) → Unwired N ends froms clocks j → Unwired N ends′ froms′ clocks′ j
     none j l y = record {
       end = getD-set-other ends k j end 0 l ∙ y .end;
       never = getD-set-other clocks k j at 0 l ∙ y .never;
     }
 
-    pub wired-more : WiredTo N ends′ froms clocks′ (k + 1)
+    pub wired-more : WiredTo N ends′ froms′ clocks′ (k + 1)
     wired-more = record {
-      wires = λ j l q. ⊎-elim (λ y. still j y (w .wires j y q)) (λ y. subst (Wired N ends′ froms clocks′) (sym y) here) (lt-suc-split (let z : j < suc k = omega arith in z));
+      wires = λ j l q. ⊎-elim (λ y. still j y (w .wires j y q)) (λ y. subst (Wired N ends′ froms′ clocks′) (sym y) here) (lt-suc-split (let z : j < suc k = omega arith in z));
       gaps = λ j l q. ⊎-elim (λ y. none j (λ z. omega arith) (w .gaps j y q)) (λ y. absurd (true≢false (sym g ∙ ap (wireAt N) (sym y) ∙ q))) (lt-suc-split (let z : j < suc k = omega arith in z));
       ahead = λ j l m. none j (λ z. omega arith) (w .ahead j (omega arith) m);
     }
 
 -- the same of equal work areas, and of equal numbers
-pub wired-as : {N : Net} {e e′ f c c′ : List ℕ} {k : ℕ} → e′ ≡ e → c′ ≡ c → WiredTo N e f c k → WiredTo N e′ f c′ k
-wired-as {N} {e} {e′} {f} {c} {c′} {k} p r w = subst (λ (y : List ℕ). WiredTo N y f c′ k) (sym p) (subst (λ (y : List ℕ). WiredTo N e f y k) (sym r) w)
+pub wired-as : {N : Net} {e e′ f f′ c c′ : List ℕ} {k : ℕ} → e′ ≡ e → f′ ≡ f → c′ ≡ c → WiredTo N e f c k → WiredTo N e′ f′ c′ k
+wired-as {N} {e} {e′} {f} {f′} {c} {c′} {k} p q r w =
+    subst (λ (y : List ℕ). WiredTo N y f′ c′ k) (sym p) (subst (λ (y : List ℕ). WiredTo N e y c′ k) (sym q) (subst (λ (y : List ℕ). WiredTo N e f y k) (sym r) w))
 
 pub wired-at : {N : Net} {e f c : List ℕ} {k m : ℕ} → k ≡ m → WiredTo N e f c k → WiredTo N e f c m
 wired-at {N} {e} {f} {c} p w = subst (WiredTo N e f c) p w
@@ -136,38 +137,46 @@ wired-none N froms = record {
 
 -- ---- wire k as the code reads it
 
-code-wires : (e : Element) → codeOf e ≡ 2 → 0 ≡ wiresTo e
-code-wires Input q = refl
-code-wires Output q = absurd (omega arith)
-code-wires (Register r) q = refl
-code-wires (Async m) q = absurd (omega arith)
-code-wires (Clocked m r) q = absurd (omega arith)
-code-wires (Gate o) q = absurd (omega arith)
+pub register-wires : (e : Element) → isRegister e ≡ true → 0 ≡ wiresTo e
+register-wires Input q = refl
+register-wires Output q = absurd (false≢true q)
+register-wires (Register r) q = refl
+register-wires (Async m) q = absurd (false≢true q)
+register-wires (Clocked m r) q = absurd (false≢true q)
+register-wires (Gate o) q = absurd (false≢true q)
 
-other-wires : (e : Element) → (codeOf e ≡ 2 → ⊥) → operands e ≡ wiresTo e
+pub other-wires : (e : Element) → isRegister e ≡ false → operands e ≡ wiresTo e
 other-wires Input q = refl
 other-wires Output q = refl
-other-wires (Register r) q = absurd (q refl)
+other-wires (Register r) q = absurd (true≢false q)
 other-wires (Async m) q = refl
 other-wires (Clocked m r) q = refl
 other-wires (Gate o) q = refl
 
-pub register-wires : {code : ℕ} → code ≡ 2 → (e : Element) → code ≡ codeOf e → 0 ≡ wiresTo e
-register-wires q e c = code-wires e (sym c ∙ q)
+-- a ROM is asynchronous or clocked
+pub memory-sum : (e : Element) → one (isAsync e) + one (isClocked e) ≡ one (isMemory e)
+memory-sum Input = refl
+memory-sum Output = refl
+memory-sum (Register r) = refl
+memory-sum (Async m) = refl
+memory-sum (Clocked m r) = refl
+memory-sum (Gate o) = refl
 
-pub count-wires : {code n : ℕ} → (code ≡ 2 → ⊥) → n ≡ getD sourcesByCode code 0 → (e : Element) → code ≡ codeOf e → n ≡ wiresTo e
-count-wires q n e c = n ∙ ap (λ (k : ℕ). getD sourcesByCode k 0) c ∙ code-sources e ∙ other-wires e (λ y. q (c ∙ y))
+-- a bit that is tested
+pub bit-true : (b : Bool) → one b ≡ 1 → b ≡ true
+bit-true true h = refl
+bit-true false h = absurd (omega arith)
+
+pub bit-false : (b : Bool) → (one b ≡ 1 → ⊥) → b ≡ false
+bit-false true h = absurd (h refl)
+bit-false false h = refl
 
 -- the clock of a ROM
-pub rom-some : (clock : ℕ) {code b : ℕ} → b ≡ one (eqb code 3) + one (eqb code 4) → b ≡ 1 → (e : Element) → code ≡ codeOf e → clock ≡ cond (isMemory e) clock 65535
-rom-some clock q r e c =
-    let m : isMemory e ≡ true = bit-true (sym (code-memory e) ∙ ap (λ (k : ℕ). one (eqb k 3) + one (eqb k 4)) (sym c) ∙ sym q ∙ r) in
-    sym (ap (λ (z : Bool). cond z clock 65535) m)
+pub rom-some : (e : Element) (clock : ℕ) {n : ℕ} → n ≡ one (isMemory e) → n ≡ 1 → clock ≡ cond (isMemory e) clock 65535
+rom-some e clock q r = sym (ap (λ (z : Bool). cond z clock 65535) (bit-true (isMemory e) (sym q ∙ r)))
 
-pub rom-none : (clock : ℕ) {code b : ℕ} → b ≡ one (eqb code 3) + one (eqb code 4) → (b ≡ 1 → ⊥) → (e : Element) → code ≡ codeOf e → 65535 ≡ cond (isMemory e) clock 65535
-rom-none clock q r e c =
-    let m : isMemory e ≡ false = bit-false (λ y. r (q ∙ ap (λ (k : ℕ). one (eqb k 3) + one (eqb k 4)) c ∙ code-memory e ∙ y)) in
-    sym (ap (λ (z : Bool). cond z clock 65535) m)
+pub rom-none : (e : Element) (clock : ℕ) {n : ℕ} → n ≡ one (isMemory e) → (n ≡ 1 → ⊥) → 65535 ≡ cond (isMemory e) clock 65535
+rom-none e clock q r = sym (ap (λ (z : Bool). cond z clock 65535) (bit-false (isMemory e) (λ y. r (q ∙ y))))
 
 module _ (N : Net) (k : ℕ) where
   pub wire-there : k % 3 < wiresTo (elementAt N (k / 3)) → wireAt N k ≡ true
@@ -187,6 +196,10 @@ wire-operand N k e = omega (arith, ltb-true (k % 3) (wiresTo (elementAt N (k / 3
 pub wire-inside : (N : Net) → Sourced N → (k : ℕ) → k < 3 * size N → wireAt N k ≡ true → sourceOf N k < size N
 unfolding Sourced
 wire-inside N sourced k h e = sourced (k / 3) (k % 3) (omega arith) (wire-operand N k e)
+
+pub operand-inside : (N : Net) {x p s : ℕ} → Sourced N → x < size N → p < wiresTo (elementAt N x) → s ≡ source N x p → s < size N
+unfolding Sourced
+operand-inside N {x} {p} sourced h l e = omega (arith, e, sourced x p h (omega (arith, l, wires-few (elementAt N x))))
 
 -- the root of a wire as the code reads it
 pub rom-at : (N : Net) (u v : ℕ) (clock : ℕ) → u ≡ v → cond (isMemory (elementAt N u)) clock 65535 ≡ cond (memoryAt N v) clock 65535

@@ -1,7 +1,7 @@
 // The wires of each ROM, linked from the first to the last, so that its reset words are found without a look at all wires.
 use areas::number_at;
 use areas::put_number;
-use index::wide;
+use circuit::wide;
 ghost use mathlib.Core.Path.{_≡_};
 ghost use mathlib.Core.List.{List};
 ghost use Prim.Native.Nat.{ℕ, _+_, _<_, _≤_};

@@ -5,14 +5,16 @@ use netlist::Node;
 use nodes::op_index;
 use nodes::source_count;
 use words::Op;
+use words::word_at;
 ghost use mathlib.Core.Path.{_≡_};
 ghost use mathlib.Core.List.{[], _∷_};
 ghost use Prim.Native.Nat.{_+_, _-_, _*_, _≤_};
-ghost use lib.ListN.{length, take, drop};
+ghost use lib.ListN.{length};
 ghost use Rattle.words.specs.Words.{bytes};
 ghost use Rattle.netlist.specs.Field.{field};
 ghost use Rattle.netlist.specs.NodeField.{kindOf, opNumber, opExtra, beforeSources, afterSources, sourceBytes, nodeContent};
-ghost use Rattle.netlist.specs.File.{nodeBytes};
+ghost use Rattle.netlist.specs.ScanLaws.{TableAt};
+ghost use Rattle.netlist.specs.File.{tableIn, tableBytes, nodeBytes};
 ghost use Rattle.codec.specs.ContentLength.{opLength, contentLength};
 ghost use Rattle.writer.specs.Written.{Puts};
 
@@ -74,12 +76,23 @@ pub fn put_end(out: &mut [u8], at: usize) -> usize
     put_start(out, at, 4, 0)
 }
 
-// A table field as it came: the bytes of a file from one offset up to another.
-pub fn put_table(file: &[u8], from: usize, to: usize, out: &mut [u8], at: usize) -> usize
-    requires { ⌜ (from ≤ to) × (to ≤ length (now file)) × (at + (to - from) ≤ length (now out)) ⌝ }
-    ensures { λ r. ⌜ Puts (now (out .entry)) at (take (to - from) (drop from (now (file .entry)))) r (now (out .exit)) ⌝ }
+// The field of the table that stands at an offset of a file: how long it is, and its writing. Its content is copied.
+pub fn table_length(file: &[u8], from: usize) -> usize
+    requires { ⌜ TableAt (now file) from ⌝ }
+    ensures { λ r. ⌜ (r ≡ length (tableBytes (tableIn (now (file .entry)) from))) × (r ≤ 65538) ⌝ }
 {
-    put_bytes(out, at, &file[from..to])
+    3 + word_at(file, from + 1) as usize
+}
+
+pub fn copy_table(file: &[u8], from: usize, out: &mut [u8], at: usize) -> usize
+    requires { ⌜ TableAt (now file) from × (at + length (tableBytes (tableIn (now file) from)) ≤ length (now out)) ⌝ }
+    ensures { λ r. ⌜ Puts (now (out .entry)) at (tableBytes (tableIn (now (file .entry)) from)) r (now (out .exit)) ⌝ }
+{
+    let size = word_at(file, from + 1);
+    let start = from + 3;
+    let end = start + size as usize;
+    let next = put_start(out, at, 2, size);
+    put_bytes(out, next, &file[start..end])
 }
 
 // The number of a kind.

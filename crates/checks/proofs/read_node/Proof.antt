@@ -1,20 +1,13 @@
--- What opening tells, and the node of the index.
+-- What opening tells, and the node of the circuit.
 use native.Mathlib.Omega.{arith}
+use Rattle.checks.specs.Opens.{opened-refused, opened-fine}
+use Rattle.checks.specs.Serves.{node-refused, node-there, node-missing}
 use borrow.Author.Needs.{needs}
-use Rattle.checks.specs.Open.{taken}
-use Rattle.checks.specs.Opens.{opened-refused, opened-fields}
-use Rattle.checks.specs.Serves.{node-refused, tables-length, nodes-length, index-found, served-node, no-node}
 use Rattle.checks.proofs.read_node.Statement.{statement}
 use Rattle.checks.proofs.read_node.Tie as tie
 
 slice-aggregate-open-file : tie.Need-slice-aggregate-open-file
 slice-aggregate-open-file c = search needs
-
-slice-aggregate-open-file-2 : tie.Need-slice-aggregate-open-file-2
-slice-aggregate-open-file-2 c = search needs
-
-slice-aggregate-open-file-3 : tie.Need-slice-aggregate-open-file-3
-slice-aggregate-open-file-3 c = search needs
 
 open-file-requires : tie.Need-open-file-requires
 open-file-requires c κs = search needs
@@ -22,48 +15,42 @@ open-file-requires c κs = search needs
 enum-known-number : tie.Need-enum-known-number
 enum-known-number c = search needs
 
-enum-known-t : tie.Need-enum-known-t
-enum-known-t c = search needs
+enum-told : tie.Need-enum-told
+enum-told c = search needs
 
-array-share-prefix-tables : tie.Need-array-share-prefix-tables
-array-share-prefix-tables c = opened-fields (c .before .before .before .before .before .before .before .open-file .ensures) (c .before .before .t .given .1) .0
+slice-aggregate-node-count : tie.Need-slice-aggregate-node-count
+slice-aggregate-node-count c = search needs
 
-slice-aggregate-node : tie.Need-slice-aggregate-node
-slice-aggregate-node c = tables-length (c .before .before .before .before .before .before .before .before .open-file .ensures) (c .before .before .before .t .given .1)
+node-count-requires : tie.Need-node-count-requires
+node-count-requires c κs = opened-fine (c .before .before .before .before .open-file .ensures) (c .before .enum-told .given .1) .circuit
 
-array-share-prefix-nodes : tie.Need-array-share-prefix-nodes
-array-share-prefix-nodes c = opened-fields (c .before .before .before .before .before .before .before .before .open-file .ensures) (c .before .before .before .t .given .1) .1
+slice-aggregate-node-of : tie.Need-slice-aggregate-node-of
+slice-aggregate-node-of c = search needs
 
-slice-aggregate-node-2 : tie.Need-slice-aggregate-node-2
-slice-aggregate-node-2 c = nodes-length (c .before .before .before .before .before .before .before .before .before .open-file .ensures) (c .before .before .before .before .t .given .1)
-
-node-requires : tie.Need-node-requires
-node-requires c κs = (index-found (c .before .before .before .before .before .before .before .before .before .open-file .ensures) (c .before .before .before .before .t .given .1), omega (arith, nodes-length (c .before .before .before .before .before .before .before .before .before .open-file .ensures) (c .before .before .before .before .t .given .1), c .before .before .if1 .taken))
+node-of-requires : tie.Need-node-of-requires
+node-of-requires c κs = (opened-fine (c .before .before .before .before .before .before .before .open-file .ensures) (c .before .before .before .before .enum-told .given .1) .circuit, omega (arith, c .before .if1 .taken, c .before .before .node-count .ensures))
 
 returns : tie.Need-returns
-returns c = node-refused _ _ (opened-refused (c .before .before .before .before .before .before .open-file .ensures) (c .before .number .given .1))
+returns c = node-refused _ _ (opened-refused (c .before .before .before .before .open-file .ensures) (c .before .number .given .1))
 
 returns-2 : tie.Need-returns-2
-returns-2 c = served-node (c .before .before .before .before .before .before .before .before .before .before .open-file .ensures) (c .before .before .before .before .before .t .given .1) _ (c .before .before .before .if1 .taken) _ (c .node .ensures)
+returns-2 c = node-there (opened-fine (c .before .before .before .before .before .before .before .before .open-file .ensures) (c .before .before .before .before .before .enum-told .given .1)) _ (c .before .before .before .node-count .ensures .0) (c .before .before .if1 .taken) _ (c .node-of .ensures)
 
 returns-3 : tie.Need-returns-3
-returns-3 c = no-node (c .before .before .before .before .before .before .before .open-file .ensures) (c .before .before .t .given .1) _ (c .if1 .left)
+returns-3 c = node-missing (opened-fine (c .before .before .before .before .before .before .open-file .ensures) (c .before .before .before .enum-told .given .1)) _ (c .before .node-count .ensures .0) (c .if1 .left)
 
 pub read-node-spec : {M : Type 1} → statement M
 read-node-spec =
     tie.close
     (tie.spec
     slice-aggregate-open-file
-    slice-aggregate-open-file-2
-    slice-aggregate-open-file-3
     open-file-requires
     enum-known-number
-    enum-known-t
-    array-share-prefix-tables
-    slice-aggregate-node
-    array-share-prefix-nodes
-    slice-aggregate-node-2
-    node-requires
+    enum-told
+    slice-aggregate-node-count
+    node-count-requires
+    slice-aggregate-node-of
+    node-of-requires
     returns
     returns-2
     returns-3)

@@ -53,10 +53,10 @@ use Rattle.checks.proofs.TableAnswer as T
 use Rattle.checks.proofs.TableAnswer.Laws as T′
 use Rattle.checks.proofs.TablePlace as P
 use Rattle.checks.proofs.TablePlace.Laws as P′
-use Rattle.checks.proofs.table_place as place
-use Rattle.checks.proofs.table_place.Symbol as place-def
-use Rattle.checks.proofs.table_place.Symbol.{name as #checks·table-place}
-use Rattle.checks.proofs.table_place.Met as place-thm
+use Rattle.checks.proofs.place_of as place
+use Rattle.checks.proofs.place_of.Symbol as place-def
+use Rattle.checks.proofs.place_of.Symbol.{name as #checks·place-of}
+use Rattle.checks.proofs.place_of.Met as place-thm
 use Rattle.checks.proofs.words_at as part
 use Rattle.checks.proofs.words_at.Symbol as part-def
 use Rattle.checks.proofs.words_at.Symbol.{name as #checks·words-at}
@@ -101,7 +101,7 @@ module _ {M : Type 1} (𝓤 : URA M) (H : Heap 𝓤) (A : Atoms 𝓤) (W : Given
   abbrev Post : Val → SProp 𝓤
   Post = walkOf 𝓤 H A words.ended stayed (words.clauses 𝓤 H A mem run) .post (((κ, tt), (q, tt), tt, (s, (k, tt)), at), tt)
 
-  -- the call of `table_place`: what it is passed, what it asks, and what is known of its result
+  -- the call of `place_of`: what it is passed, what it asks, and what is known of its result
   abbrev to-place : Place 𝓤 H A mem run .Ghost
   to-place = (((κ, tt), (q, tt), tt, (s, (k, tt)), at), tt)
 
@@ -167,13 +167,13 @@ module _ {M : Type 1} (𝓤 : URA M) (H : Heap 𝓤) (A : Atoms 𝓤) (W : Given
         nothing ! $ move ! (2 ∷ 0 ∷ []) $ fjoin ! $ move ! (1 ∷ 0 ∷ []) $ fjoin ! $ feqI ! (List Val) (mach ∷ []) (mach ∷ []) refl $ fjoin ! $
         fpack ! (Valss (rows (T.the-type α .parts))) (within (shape (T.the-type α)) (intos (T.the-type α .parts) (a, (x, tt))) (mach ∷ [])) (t ∷ [], (w ∷ [], tt)) $ done !
 
-  module _ (C : Calls 𝓤 H) (Λ : Loops 𝓤 H) (fm : FmC 𝓤 H (W .laws) C) (known-place : Triple 𝓤 (C #checks·table-place) (Place 𝓤 H A mem run)) (known-part : Triple 𝓤 (C #checks·words-at) (Part 𝓤 H A mem run)) (known-with : Triple 𝓤 (C #checks·answer-with) (With 𝓤 H A mem run)) where
+  module _ (C : Calls 𝓤 H) (Λ : Loops 𝓤 H) (fm : FmC 𝓤 H (W .laws) C) (known-place : Triple 𝓤 (C #checks·place-of) (Place 𝓤 H A mem run)) (known-part : Triple 𝓤 (C #checks·words-at) (Part 𝓤 H A mem run)) (known-with : Triple 𝓤 (C #checks·answer-with) (With 𝓤 H A mem run)) where
     walk : Is (ShrSlice (named 0) κ u8) s (v ∷ []) → ent 𝓤 (onEntry 𝓤 H A words.signature (κ, tt) (q, tt) (s, (k, tt)) at) (WpFn 𝓤 H C Λ code.function (v ∷ vint w64 k ∷ []) Post)
     walk is-s =
         qed W (raw (onEntry 𝓤 H A words.signature (κ, tt) (q, tt) (s, (k, tt)) at) ∷ []) ∵ enter ! C Λ code.function (v ∷ vint w64 k ∷ []) _ $
         alloc1 ! (λ l₀. alloc1 ! (λ l₁. alloc1 ! (λ l₂. alloc1 ! (λ l₃. alloc1 ! (λ l₄. alloc1 ! (λ l₅. alloc0 ! $ params1 ! $
         pass1 ! (init ! 8 refl (shr-slice-lawful 𝓤 H A W (named 0) κ u8 .typed s (v ∷ []) is-s .0)) $ pass1 ! (init ! 6 refl (tt, record { fits = ok })) $ pass0 ! $
-        -- `table_place`, to _3
+        -- `place_of`, to _3
         move ! (12 ∷ []) $ use1 W (raw (Place 𝓤 H A mem run .pre to-place) ⊛ ‵ (Own s v)) goes-place $ split ! $
         calls-at ! fm (Place 𝓤 H A mem run) known-place to-place (and-then ! (load ! (from ! (stop !)) (look ! 10 refl)) (and-then ! (load ! (from ! (stop !)) (look ! 8 refl)) (no-more !))) (λ u.
         use1 W (later (some (λ (p : TablePlace). ((‵ (flft κ q) ⊛ ‵ ftrue) ⊛ ‵ (P.the-row .own p (u ∷ []))) ⊛ raw (ensured 𝓤 H A place.ended (place.clauses 𝓤 H A mem run) (κ, tt) (s, (k, tt)) tt p)))) (id⊢ 𝓤 _) $ await ! tt $ pick ! (λ p.
@@ -200,14 +200,14 @@ module _ {M : Type 1} (𝓤 : URA M) (H : Heap 𝓤) (A : Atoms 𝓤) (W : Given
         by ! (exits x w a t (served-there there e d))))))))))))))))))))
 
 module _ {M : Type 1} (𝓤 : URA M) (H : Heap 𝓤) (A : Atoms 𝓤) (W : Given 𝓤 H A) (mem : Memory → SProp 𝓤) (run : Routine → Fun 𝓤) where
-  words-walks : (C : Calls 𝓤 H) (Λ : Loops 𝓤 H) → FmC 𝓤 H (W .laws) C → Triple 𝓤 (C #checks·table-place) (Place 𝓤 H A mem run) → Triple 𝓤 (C #checks·words-at) (Part 𝓤 H A mem run) → Triple 𝓤 (C #checks·answer-with) (With 𝓤 H A mem run)
+  words-walks : (C : Calls 𝓤 H) (Λ : Loops 𝓤 H) → FmC 𝓤 H (W .laws) C → Triple 𝓤 (C #checks·place-of) (Place 𝓤 H A mem run) → Triple 𝓤 (C #checks·words-at) (Part 𝓤 H A mem run) → Triple 𝓤 (C #checks·answer-with) (With 𝓤 H A mem run)
       → Walks 𝓤 H A words.ended stayed (WpFn 𝓤 H C Λ code.function) (words.clauses 𝓤 H A mem run)
   words-walks C Λ fm known-place known-part known-with = walked 𝓤 H A words.ended stayed (words.clauses 𝓤 H A mem run) (WpFn 𝓤 H C Λ code.function)
       (λ κs. (slice-vals, (uint-vals w64, tt))) (λ κs. (shr-slice-tells (named 0) (κs .0) u8, (uint-tells w64, tt)))
       (λ κs qs bounds a g are. via 𝓤 _ (fst∗ 𝓤 _ (emp 𝓤)) (walk 𝓤 H A W mem run (κs .0) (qs .0) (a .0) (a .1 .0) (are .1 .0 .1) C Λ fm known-place known-part known-with (are .0)))
 
 words-meets : {M : Type 1} (𝓤 : URA M) (H : Heap 𝓤) (A : Atoms 𝓤) (W : Given 𝓤 H A) (mem : Memory → SProp 𝓤) (run : Routine → Fun 𝓤) (𝓣 : Tables 𝓤 H)
-    → Triple 𝓤 (𝓣 .C #checks·table-place) (Place 𝓤 H A mem run) → Triple 𝓤 (𝓣 .C #checks·words-at) (Part 𝓤 H A mem run) → Triple 𝓤 (𝓣 .C #checks·answer-with) (With 𝓤 H A mem run)
+    → Triple 𝓤 (𝓣 .C #checks·place-of) (Place 𝓤 H A mem run) → Triple 𝓤 (𝓣 .C #checks·words-at) (Part 𝓤 H A mem run) → Triple 𝓤 (𝓣 .C #checks·answer-with) (With 𝓤 H A mem run)
     → Meets 𝓤 H A words.signature (WpFn 𝓤 H (𝓣 .C) (𝓣 .Λ) code.function) (words.spec 𝓤 H A mem run)
 words-meets 𝓤 H A W mem run 𝓣 known-place known-part known-with =
     walk-meets 𝓤 H A words.ended stayed W (goes-none-slice 𝓤 H A W 1 (0 ∷ []) tt (plain (λ _. u8)) yes, (goes-none 𝓤 H A W 1 (λ _. usize) yes (λ κs x f. refl), tt)) (words.clauses 𝓤 H A mem run)
@@ -219,6 +219,6 @@ table-words-spec 𝓤 H 𝓜 𝓖 𝓡 =
     entered 𝓤 H (tripleOf 𝓤 H (𝓖 .A) words.signature (words.spec 𝓤 H (𝓖 .A) (𝓜 .mem) (𝓡 .run)))
     (tables 𝓤 H 𝓜 𝓡 code.env .C) (tables 𝓤 H 𝓜 𝓡 code.env .Λ) #checks·table-words code.function (code.unfolded 𝓤 H 𝓜 𝓡)
     (words-meets 𝓤 H (𝓖 .A) (givenOf 𝓤 H 𝓜 𝓖) (𝓜 .mem) (𝓡 .run) (tablesOf 𝓤 H 𝓜 (tables 𝓤 H 𝓜 𝓡 code.env))
-    (cited 𝓤 H (Place 𝓤 H (𝓖 .A) (𝓜 .mem) (𝓡 .run)) 𝓜 𝓡 code.env #checks·table-place place-def.routine code.calls-checks·table-place (place-thm.met 𝓤 H 𝓜 𝓖 𝓡))
+    (cited 𝓤 H (Place 𝓤 H (𝓖 .A) (𝓜 .mem) (𝓡 .run)) 𝓜 𝓡 code.env #checks·place-of place-def.routine code.calls-checks·place-of (place-thm.met 𝓤 H 𝓜 𝓖 𝓡))
     (cited 𝓤 H (Part 𝓤 H (𝓖 .A) (𝓜 .mem) (𝓡 .run)) 𝓜 𝓡 code.env #checks·words-at part-def.routine code.calls-checks·words-at (part-thm.met 𝓤 H 𝓜 𝓖 𝓡))
     (cited 𝓤 H (With 𝓤 H (𝓖 .A) (𝓜 .mem) (𝓡 .run)) 𝓜 𝓡 code.env #checks·answer-with with-def.routine code.calls-checks·answer-with (with-thm.met 𝓤 H 𝓜 𝓖 𝓡)))

@@ -1,71 +1,71 @@
 -- Where all nodes are placed none reaches itself; where some are left one does, and the search finds the lowest.
-use mathlib.Core.Path.{_≡_, sym, ap, _∙_}
-use Prim.Native.Nat.{ℕ}
+use mathlib.Core.Path.{sym, ap, subst, _∙_}
+use Prim.Native.Nat.{_<_}
 use native.Mathlib.Omega.{arith}
-use lib.ListN.{length, length-replicate}
-use borrow.Author.Needs.{needs}
 use Rattle.lists.specs.Lists.{lowest}
-use Rattle.netlist.specs.Net.{size}
+use Rattle.netlist.specs.Net.{Net, inClock, size, Sourced}
 use Rattle.netlist.specs.Reach.{reachesItself}
-use Rattle.netlist.specs.File.{netIn}
-use Rattle.netlist.specs.FileLaws.{size-in}
-use Rattle.order.specs.Order.{classOf}
-use Rattle.order.specs.OrderLaws.{placed-none, complete}
+use Rattle.circuit.specs.Circuit.{netOf}
 use Rattle.cycles.specs.CycleLaws.{none-left, some-left}
+use borrow.Author.Needs.{needs}
 use Rattle.cycles.proofs.lowest_cycle.Statement.{statement}
 use Rattle.cycles.proofs.lowest_cycle.Tie as tie
 
-slice-aggregate-order-with-hint : tie.Need-slice-aggregate-order-with-hint
-slice-aggregate-order-with-hint c = search needs
+slice-aggregate-propose : tie.Need-slice-aggregate-propose
+slice-aggregate-propose c = search needs
 
-slice-aggregate-order-with-hint-2 : tie.Need-slice-aggregate-order-with-hint-2
-slice-aggregate-order-with-hint-2 c = search needs
+propose-requires : tie.Need-propose-requires
+propose-requires c κs = search needs
 
-order-with-hint-requires : tie.Need-order-with-hint-requires
-order-with-hint-requires c κs =
-    let a = c .before .before .before .before .before .before .before .before .before .args in
-    let N = netIn (a .file .now) (a .tables .now) (a .nodes .now) in
-    let K = classOf (a .steps) in
-    (c .before .before .before .before .before .before .before .before .before .pre .0, c .before .before .before .before .before .before .before .before .before .pre .1, placed-none K N 1024 _ (omega (arith, size-in (a .file .now) (a .tables .now) (a .nodes .now), c .before .before .before .before .before .before .before .before .before .pre .0 .few-nodes)) (omega (arith, size-in (a .file .now) (a .tables .now) (a .nodes .now), c .before .before .before .before .before .before .before .before .before .pre .0 .few-nodes, c .before .before .before .before .before .before .before .before .before .pre .2)), c .before .before .before .before .before .before .before .before .before .pre .3)
+slice-aggregate-order-nodes : tie.Need-slice-aggregate-order-nodes
+slice-aggregate-order-nodes c = search needs
+
+order-nodes-requires : tie.Need-order-nodes-requires
+order-nodes-requires c κs = search needs
+
+node-count-requires : tie.Need-node-count-requires
+node-count-requires c κs = search needs
 
 same-length : tie.Need-same-length
-same-length c = c .before .before .before .before .before .order-with-hint .kept .1 .1 .1 .1 .1 .0
+same-length c = search needs
 
 returns : tie.Need-returns
 returns c =
-    let a = c .before .before .before .before .before .before .before .before .before .before .before .before .before .before .before .args in
-    let N = netIn (a .file .now) (a .tables .now) (a .nodes .now) in
-    let K = classOf (a .steps) in
-    let z : size N ≡ length (a .nodes .now) = size-in (a .file .now) (a .tables .now) (a .nodes .now) in
-    let t = c .before .before .before .before .before .order-with-hint .ensures .0 in
-    let e = c .if1 .taken ∙ sym z in
-    (e ∙ none-left K N (c .before .before .before .before .before .before .before .before .before .before .before .before .before .before .before .pre .1) t e ∙ ap (λ (m : ℕ). lowest m (reachesItself K N)) z, λ _. complete K N t e)
+    let a = c .before .before .before .before .before .before .before .before .before .before .before .before .before .before .args in
+    let N = netOf (a .file .now) (a .net .now) in
+    let o = c .before .before .before .before .before .order-nodes .ensures in
+    let e = c .if1 .taken ∙ c .before .node-count .ensures .0 ∙ ap size (o .0) in
+    (o .0, o .1, e ∙ none-left inClock N (c .before .before .before .before .before .before .before .before .before .before .before .before .before .before .pre .1) (o .2 .full e), λ _. o .2 .full e)
 
 slice-aggregate-lowest-on-cycle : tie.Need-slice-aggregate-lowest-on-cycle
-slice-aggregate-lowest-on-cycle c = sym (c .before .before .before .before .before .before .order-with-hint .kept .1 .1 .1 .1 .1 .1 .0 ∙ length-replicate {A = ℕ} 1024 0)
+slice-aggregate-lowest-on-cycle c = search needs
 
 lowest-on-cycle-requires : tie.Need-lowest-on-cycle-requires
-lowest-on-cycle-requires c κs = (c .before .before .before .before .before .before .before .before .before .before .before .before .before .before .before .before .pre .0, c .before .before .before .before .before .before .before .before .before .before .before .before .before .before .before .before .pre .1, c .before .before .before .before .before .before .before .before .before .before .before .before .before .before .before .before .pre .3)
+lowest-on-cycle-requires c κs =
+    let o = c .before .before .before .before .before .before .before .order-nodes .ensures in
+    (o .1, subst Sourced (sym (o .0)) (c .before .before .before .before .before .before .before .before .before .before .before .before .before .before .before .before .pre .1))
 
 same-length-2 : tie.Need-same-length-2
-same-length-2 c = c .before .before .before .before .before .before .before .order-with-hint .kept .1 .1 .1 .1 .1 .0
+same-length-2 c = search needs
 
 returns-2 : tie.Need-returns-2
 returns-2 c =
     let a = c .before .before .before .before .before .before .before .before .before .before .before .before .before .before .before .before .before .args in
-    let N = netIn (a .file .now) (a .tables .now) (a .nodes .now) in
-    let K = classOf (a .steps) in
-    let z : size N ≡ length (a .nodes .now) = size-in (a .file .now) (a .tables .now) (a .nodes .now) in
-    let r = c .before .before .before .before .before .before .before .order-with-hint .ensures in
-    (c .lowest-on-cycle .ensures, λ e. absurd (some-left K N (c .before .before .before .before .before .before .before .before .before .before .before .before .before .before .before .before .before .pre .1) (r .0) z (c .before .before .if1 .left) (r .1) (sym (c .lowest-on-cycle .ensures) ∙ e)))
+    let N = netOf (a .file .now) (a .net .now) in
+    let o = c .before .before .before .before .before .before .before .before .order-nodes .ensures in
+    let e = c .lowest-on-cycle .ensures ∙ ap (λ (M : Net). lowest (size M) (reachesItself inClock M)) (o .0) in
+    let short : c .before .before .before .before .before .before .before .before .order-nodes .result < size N = omega (arith, o .2 .few, c .before .before .before .if1 .left, c .before .before .before .before .node-count .ensures .0, ap size (o .0)) in
+    (o .0, o .1, e, λ q. absurd (some-left inClock N (c .before .before .before .before .before .before .before .before .before .before .before .before .before .before .before .before .before .pre .1) (o .2 .left short) (sym e ∙ q)))
 
 pub lowest-cycle-spec : {M : Type 1} → statement M
 lowest-cycle-spec =
     tie.close
     (tie.spec
-    slice-aggregate-order-with-hint
-    slice-aggregate-order-with-hint-2
-    order-with-hint-requires
+    slice-aggregate-propose
+    propose-requires
+    slice-aggregate-order-nodes
+    order-nodes-requires
+    node-count-requires
     same-length
     returns
     slice-aggregate-lowest-on-cycle

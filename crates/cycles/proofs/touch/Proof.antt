@@ -1,13 +1,14 @@
 -- By the laws of a try at one node.
 use mathlib.Core.Path.{sym, _∙_}
+use Prim.Native.Nat.{_≤_}
 use native.Mathlib.Omega.{arith}
-use borrow.Author.Needs.{needs}
-use Rattle.netlist.specs.File.{netIn}
-use Rattle.netlist.specs.FileLaws.{size-in}
+use lib.ListN.{getD}
+use Rattle.circuit.specs.Circuit.{netOf}
 use Rattle.order.specs.Pass.{once-on, once-waiting}
 use Rattle.order.specs.Order.{classOf}
 use Rattle.cycles.specs.Spread.{reached-once}
-use Rattle.cycles.proofs.Touches.{touches-is}
+use Rattle.cycles.proofs.Touches.{reached-few}
+use borrow.Author.Needs.{needs}
 use Rattle.cycles.proofs.touch.Statement.{statement}
 use Rattle.cycles.proofs.touch.Tie as tie
 
@@ -18,42 +19,36 @@ same-length : tie.Need-same-length
 same-length c = search needs
 
 returns : tie.Need-returns
-returns c = once-on (c .before .before .before .before .before .before .before .before .before .pre .4) (omega (arith, c .before .flag-at .ensures))
+returns c = once-on (c .before .before .before .before .before .before .pre .1 .2) (omega (arith, c .if1 .taken, c .before .flag-at .ensures))
 
-count-at-requires : tie.Need-count-at-requires
-count-at-requires c κs = (c .before .before .before .before .before .before .before .before .before .pre .5, c .before .before .before .before .before .before .before .before .before .pre .2, omega (arith, c .before .before .before .before .before .before .before .before .before .pre .2, c .before .before .before .before .before .before .before .before .before .pre .0 .few-nodes))
-
-mul-any-touched : tie.Need-mul-any-touched
-mul-any-touched c = omega (arith, c .before .before .before .before .before .before .before .before .before .before .pre .2, c .before .before .before .before .before .before .before .before .before .before .pre .0 .few-nodes)
-
-any-touched-requires : tie.Need-any-touched-requires
-any-touched-requires c κs = omega (arith, c .before .before .before .before .before .before .before .before .before .before .before .pre .2, c .before .before .before .before .before .before .before .before .before .before .before .pre .0 .few-nodes, c .before .before .before .before .before .before .before .before .before .before .before .pre .5 .source-room, c .before .count-at .ensures .1)
+is-touched-requires : tie.Need-is-touched-requires
+is-touched-requires c κs = search needs
 
 put-flag-requires : tie.Need-put-flag-requires
 put-flag-requires c κs = search needs
 
 add-result : tie.Need-add-result
-add-result c = omega arith
+add-result c =
+    let p = c .before .before .before .before .before .before .before .before .before .before .before .before .before .pre in
+    let a = c .before .before .before .before .before .before .before .before .before .before .before .before .before .args in
+    omega (arith, reached-few (classOf (a .steps)) (netOf (a .file .now) (a .net .now)) (p .1 .2), p .0 .few)
 
 same-length-2 : tie.Need-same-length-2
 same-length-2 c = search needs
 
 returns-2 : tie.Need-returns-2
 returns-2 c =
-    let a = c .before .before .before .before .before .before .before .before .before .before .before .before .before .before .before .before .before .args in
-    let N = netIn (a .file .now) (a .tables .now) (a .nodes .now) in
-    let K = classOf (a .steps) in
-    reached-once K N (c .before .before .before .before .before .before .before .before .before .before .before .before .before .before .before .before .before .pre .1) (c .before .before .before .before .before .before .before .before .before .before .before .before .before .before .before .before .before .pre .4) (omega (arith, c .before .before .before .before .before .before .before .before .before .before .before .before .before .before .before .before .before .pre .2, size-in (a .file .now) (a .tables .now) (a .nodes .now))) (omega (arith, c .before .before .before .before .before .before .before .before .before .flag-at .ensures)) (sym (c .before .before .before .before .before .any-touched .ensures ∙ touches-is K N (c .before .before .before .before .before .before .before .before .before .before .before .before .before .before .before .before .before .pre .5) (a .s) (a .marks .now) (a .u) (c .before .before .before .before .before .before .before .before .before .before .before .before .before .before .before .before .before .pre .2) (c .before .before .before .before .before .before .before .count-at .result) (c .before .before .before .before .before .before .before .count-at .ensures .0) (c .before .before .before .before .before .before .before .count-at .ensures .1)) ∙ c .before .before .before .before .if2 .taken) (c .before .before .put-flag .ensures)
+    let p = c .before .before .before .before .before .before .before .before .before .before .before .before .before .pre .1 in
+    let a = c .before .before .before .before .before .before .before .before .before .before .before .before .before .args in
+    let off : getD (a .marks .now) (a .u) 0 ≤ 0 = omega (arith, c .before .before .before .before .before .before .before .if1 .left, c .before .before .before .before .before .before .before .before .flag-at .ensures) in
+    let hit = sym (c .before .before .before .before .before .is-touched .ensures) ∙ c .before .before .before .before .if2 .taken in
+    reached-once (classOf (a .steps)) (netOf (a .file .now) (a .net .now)) (p .0) (p .2) (p .1) off hit (c .before .before .put-flag .ensures)
 
 same-length-3 : tie.Need-same-length-3
 same-length-3 c = search needs
 
 returns-3 : tie.Need-returns-3
-returns-3 c =
-    let a = c .before .before .before .before .before .before .before .before .before .before .before .before .before .args in
-    let N = netIn (a .file .now) (a .tables .now) (a .nodes .now) in
-    let K = classOf (a .steps) in
-    once-waiting (c .before .before .before .before .before .before .before .before .before .before .before .before .before .pre .4) (sym (c .before .any-touched .ensures ∙ touches-is K N (c .before .before .before .before .before .before .before .before .before .before .before .before .before .pre .5) (a .s) (a .marks .now) (a .u) (c .before .before .before .before .before .before .before .before .before .before .before .before .before .pre .2) (c .before .before .before .count-at .result) (c .before .before .before .count-at .ensures .0) (c .before .before .before .count-at .ensures .1)) ∙ c .if2 .left)
+returns-3 c = once-waiting (c .before .before .before .before .before .before .before .before .before .pre .1 .2) (sym (c .before .is-touched .ensures) ∙ c .if2 .left)
 
 pub touch-spec : {M : Type 1} → statement M
 touch-spec =
@@ -62,9 +57,7 @@ touch-spec =
     flag-at-requires
     same-length
     returns
-    count-at-requires
-    mul-any-touched
-    any-touched-requires
+    is-touched-requires
     put-flag-requires
     add-result
     same-length-2

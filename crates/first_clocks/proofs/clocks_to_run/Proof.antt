@@ -1,9 +1,9 @@
 -- The loop's invariant: the words of the first k places are due before the limit.
-use mathlib.Core.Path.{_≡_, refl, sym, ap, subst, _∙_}
-use Prim.Native.Nat.{ℕ, _+_, _-_, _≤_, _<_}
+use mathlib.Core.Path.{_≡_, subst}
+use Prim.Native.Nat.{ℕ, _-_, _≤_}
 use native.Mathlib.Nat.{not-suc-le-zero}
 use native.Mathlib.Omega.{arith}
-use lib.ListN.{length, getD}
+use lib.ListN.{length}
 use borrow.Author.Needs.{needs}
 use Rattle.first_clocks.specs.Wanted.{DueBefore, due-more}
 use Rattle.first_clocks.proofs.clocks_to_run.Statement.{statement}

@@ -33,10 +33,14 @@ same-length : tie.Need-same-length
 same-length c = search needs
 
 returns : tie.Need-returns
-returns c = let w = c .before .wide .ensures .0 in lifted (omega (arith, w, c .if1 .taken))
+returns c =
+    let w = c .before .wide .ensures .0 in
+    lifted (omega (arith, w, c .if1 .taken))
 
 returns-2 : tie.Need-returns-2
-returns-2 c = let w = c .before .wide .ensures .0 in enough (omega (arith, w, c .if1 .left))
+returns-2 c =
+    let w = c .before .wide .ensures .0 in
+    enough (omega (arith, w, c .if1 .left))
 
 pub raise-spec : {M : Type 1} → statement M
 raise-spec =

@@ -1,25 +1,20 @@
 -- The loop's invariant: the operands passed are served by the leads as they were, if none was raised.
 use mathlib.Core.Path.{_≡_, refl, sym, subst, _∙_}
-use Prim.Native.Nat.{_-_, _≤_, _<_}
+use Prim.Native.Nat.{_-_, _≤_}
 use native.Mathlib.Omega.{arith}
 use lib.ListN.{length}
 use borrow.Author.Needs.{needs}
-use Rattle.lists.specs.Lists.{one}
-use Rattle.netlist.specs.Net.{nodeAt, elementAt, operands, isRegister, size}
-use Rattle.columns.specs.Columns.{code-small}
-use Rattle.columns.specs.Kinds.{register-bit, count-is, reads-is}
-use Rattle.netlist.specs.File.{netIn}
-use Rattle.netlist.specs.FileLaws.{size-in}
+use Rattle.circuit.specs.Circuit.{netOf}
 use Rattle.leads.specs.Progress.{Excess, ServedTo, Progress, progress-none}
-use Rattle.leads.proofs.Relaxing.{raise-bit, rom-few, source-inside, relax-more, relax-done, relax-over, operand-of, operands-done, register-of}
+use Rattle.leads.proofs.Relaxing.{raise-bit, rom-few, source-inside, relax-more, relax-done, relax-over}
 use Rattle.leads.proofs.relax.Statement.{statement}
 use Rattle.leads.proofs.relax.Tie as tie
 
 abbrev Inv-loop : tie.InvT-loop
-Inv-loop file tables nodes roms bound x leads₀ codes reads own code taken n raised₀ p₀ leads raised p = (length leads ≡ length leads₀) × (raised ≤ p) × (p ≤ n) × Progress (netIn file tables nodes) leads₀ leads raised (ServedTo (netIn file tables nodes) x own p)
+Inv-loop file net bound x leads₀ own taken n raised₀ p₀ leads raised p = (length leads ≡ length leads₀) × (raised ≤ p) × (p ≤ n) × Progress (netOf file net) leads₀ leads raised (ServedTo (netOf file net) x own p)
 
 abbrev μ-loop : tie.MeasureT-loop
-μ-loop file tables nodes roms bound x leads₀ codes reads own code taken n raised₀ p₀ leads raised p = n - p
+μ-loop file net bound x leads₀ own taken n raised₀ p₀ leads raised p = n - p
 
 number-at-requires : tie.Need-number-at-requires Inv-loop μ-loop
 number-at-requires c κs = search needs
@@ -28,101 +23,69 @@ wide-requires : tie.Need-wide-requires Inv-loop μ-loop
 wide-requires c κs = search needs
 
 same-length : tie.Need-same-length Inv-loop μ-loop
-same-length c = refl
+same-length c = search needs
 
 returns : tie.Need-returns Inv-loop μ-loop
-returns c = let a = c .before .before .before .before .before .before .before .before .before .before .before .args in
-    let N = netIn (a .file .now) (a .tables .now) (a .nodes .now) in
-    let z = size-in (a .file .now) (a .tables .now) (a .nodes .now) in
-    (omega arith, relax-over N (a .x) (nodeAt N (a .x)) refl (c .before .before .before .before .before .before .before .before .before .before .before .pre .1) (omega (arith, c .before .before .before .before .before .before .before .before .before .before .before .pre .2)) (c .before .before .before .before .before .before .before .before .before .before .before .pre .3) (omega (arith, c .before .wide .ensures .0 ∙ c .before .before .number-at .ensures, c .if1 .taken)))
+returns c = (omega arith, relax-over _ (c .before .before .before .before .before .before .before .pre .1 .3) (omega (arith, c .before .wide .ensures .0 ∙ c .before .before .number-at .ensures, c .if1 .taken, c .before .before .before .before .before .before .before .pre .1 .1)))
 
-code-of-requires : tie.Need-code-of-requires Inv-loop μ-loop
-code-of-requires c κs = search needs
+register-requires : tie.Need-register-requires Inv-loop μ-loop
+register-requires c κs = search needs
 
-is-kind-requires : tie.Need-is-kind-requires Inv-loop μ-loop
-is-kind-requires c κs = search needs
-
-code-sources-requires : tie.Need-code-sources-requires Inv-loop μ-loop
-code-sources-requires c κs = let a = c .before .before .before .before .before .before .before .before .before .before .before .before .before .args in
-    let z = size-in (a .file .now) (a .tables .now) (a .nodes .now) in
-    omega (arith, c .before .code-of .ensures .0, code-small _ (c .before .before .before .before .before .before .before .before .before .before .before .before .before .pre .1 .columns) (a .x) (omega (arith, c .before .before .before .before .before .before .before .before .before .before .before .before .before .pre .2)))
+source-count-requires : tie.Need-source-count-requires Inv-loop μ-loop
+source-count-requires c κs = search needs
 
 loop-holds : tie.Need-loop-holds Inv-loop μ-loop
-loop-holds c = (refl, omega arith, omega arith, progress-none _ (c .before .before .before .before .before .before .before .before .before .before .before .before .before .before .pre .3) (λ p h. absurd (omega arith)))
+loop-holds c = (refl, omega arith, omega arith, progress-none _ (c .before .before .before .before .before .before .before .before .before .pre .1 .3) (λ p h. absurd (omega arith)))
 
-mul-number-at : tie.Need-mul-number-at Inv-loop μ-loop
-mul-number-at c = omega (arith, c .before .before .before .before .before .before .before .before .before .before .before .before .before .before .before .before .pre .2, c .before .before .before .before .before .before .before .before .before .before .before .before .before .before .before .before .pre .0 .few-nodes)
+source-of-requires : tie.Need-source-of-requires Inv-loop μ-loop
+source-of-requires c κs = search needs
 
-add-number-at : tie.Need-add-number-at Inv-loop μ-loop
-add-number-at c = omega (arith, c .before .before .before .before .before .before .before .before .before .before .before .before .before .before .before .before .pre .2, c .before .before .before .before .before .before .before .before .before .before .before .before .before .before .before .before .pre .0 .few-nodes, c .loop-test .taken, c .before .before .code-sources .ensures .1)
-
-number-at-requires-2 : tie.Need-number-at-requires-2 Inv-loop μ-loop
-number-at-requires-2 c κs = search needs
-
-wide-requires-2 : tie.Need-wide-requires-2 Inv-loop μ-loop
-wide-requires-2 c κs = search needs
-
-flag-at-requires : tie.Need-flag-at-requires Inv-loop μ-loop
-flag-at-requires c κs = search needs
-
-wide-bit-requires : tie.Need-wide-bit-requires Inv-loop μ-loop
-wide-bit-requires c κs = search needs
+async-rom-requires : tie.Need-async-rom-requires Inv-loop μ-loop
+async-rom-requires c κs =
+    let p = c .before .before .before .before .before .before .before .before .before .before .before .before .before .pre in
+    (p .0, source-inside _ (p .1 .2) (c .before .before .before .before .source-count .ensures .0) (p .1 .0) (c .before .before .loop-test .taken) (c .before .source-of .ensures .0))
 
 add-raise : tie.Need-add-raise Inv-loop μ-loop
-add-raise c = omega (arith, c .wide-bit .ensures .1, c .before .before .before .before .before .before .before .before .before .before .before .wide .ensures .1)
+add-raise c = omega (arith, c .async-rom .ensures .1, c .before .before .before .before .before .before .before .before .wide .ensures .1)
 
 raise-requires : tie.Need-raise-requires Inv-loop μ-loop
-raise-requires c κs = let a = c .before .before .before .before .before .before .before .before .before .before .before .before .before .before .before .before .before .before .before .before .before .args in
-    let N = netIn (a .file .now) (a .tables .now) (a .nodes .now) in
-    let z = size-in (a .file .now) (a .tables .now) (a .nodes .now) in
-    let y = nodeAt N (a .x) in
-    let n : c .before .before .before .before .before .before .before .code-sources .result ≡ operands (elementAt N (a .x)) = count-is (c .before .before .before .before .before .before .before .before .before .before .before .before .before .before .before .before .before .before .before .before .before .pre .1 .columns) (omega (arith, c .before .before .before .before .before .before .before .before .before .before .before .before .before .before .before .before .before .before .before .before .before .pre .2)) (c .before .before .before .before .before .before .before .before .before .code-of .ensures .0) (c .before .before .before .before .before .before .before .code-sources .ensures .0) in
-    let taken : c .before .before .before .before .before .before .before .before .is-kind .result ≡ one (isRegister (elementAt N (a .x))) = register-bit (c .before .before .before .before .before .before .before .before .before .before .before .before .before .before .before .before .before .before .before .before .before .pre .1 .columns) (omega (arith, c .before .before .before .before .before .before .before .before .before .before .before .before .before .before .before .before .before .before .before .before .before .pre .2)) (c .before .before .before .before .before .before .before .before .before .code-of .ensures .0) (c .before .before .before .before .before .before .before .before .is-kind .ensures .0) in
-    let h : a .x < size N = omega (arith, c .before .before .before .before .before .before .before .before .before .before .before .before .before .before .before .before .before .before .before .before .before .pre .2) in
-    let l = c .before .before .before .before .before .before .before .before .before .before .before .before .before .before .before .before .before .before .before .before .before .pre .3 .room in (
-      omega (arith, c .before .before .before .before .before .before .loop .inv .0, source-inside N (a .x) y refl (c .before .before .before .before .before .before .before .before .before .before .before .before .before .before .before .before .before .before .before .before .before .pre .1) h (operand-of N (a .x) n (omega arith)) (reads-is (c .before .before .before .before .before .before .before .before .before .before .before .before .before .before .before .before .before .before .before .before .before .pre .1 .columns) (omega (arith, c .before .before .before .before .before .before .before .before .before .before .before .before .before .before .before .before .before .before .before .before .before .pre .2)) (c .before .before .before .before .before .before .before .before .before .code-of .ensures .0) (omega (arith, c .before .before .before .before .before .loop-test .taken, c .before .before .before .before .before .before .before .code-sources .ensures .1)) refl (c .before .before .before .wide2 .ensures .0 ∙ c .before .before .before .before .number-at2 .ensures))),
-      omega (arith, c .wide-bit .ensures .1, c .before .before .before .before .before .before .before .before .before .before .if1 .left, c .before .before .before .before .before .before .before .before .before .before .before .before .before .before .before .before .before .before .before .before .before .pre .1 .count, rom-few N, c .before .before .before .before .before .before .before .before .before .before .before .before .before .before .before .before .before .before .before .before .before .pre .0 .few-nodes),
-      omega (arith, c .before .before .before .before .before .before .before .before .is-kind .ensures .1),
+raise-requires c κs =
+    let a = c .before .before .before .before .before .before .before .before .before .before .before .before .before .before .args in
+    let p = c .before .before .before .before .before .before .before .before .before .before .before .before .before .before .pre in
+    let u = source-inside _ (p .1 .2) (c .before .before .before .before .before .source-count .ensures .0) (p .1 .0) (c .before .before .before .loop-test .taken) (c .before .before .source-of .ensures .0) in (
+      omega (arith, c .before .before .before .before .loop .inv .0, p .1 .3 .room),
+      omega (arith, c .async-rom .ensures .1, c .before .before .before .before .before .before .before .if1 .left, p .1 .1, rom-few (netOf (a .file .now) (a .net .now)), p .0 .few),
+      omega (arith, c .before .before .before .before .before .before .register .ensures .1),
     )
 
 add-raised : tie.Need-add-raised Inv-loop μ-loop
-add-raised c = omega (arith, raise-bit (c .before .before .raise .ensures), c .before .before .before .before .before .before .before .before .before .loop .inv .1, c .before .before .before .before .before .before .before .before .before .before .code-sources .ensures .1, c .before .before .before .before .before .before .before .before .before .loop .inv .2)
+add-raised c = omega (arith, raise-bit (c .before .before .raise .ensures), c .before .before .before .before .before .before .before .loop .inv .1, c .before .before .before .before .before .before .before .loop .inv .2, c .before .before .before .before .before .before .before .before .source-count .ensures .1)
 
 add-p : tie.Need-add-p Inv-loop μ-loop
-add-p c = omega arith
+add-p c = search needs
 
 loop-less : tie.Need-loop-less Inv-loop μ-loop
-loop-less c = omega arith
+loop-less c = search needs
 
 loop-again : tie.Need-loop-again Inv-loop μ-loop
-loop-again c = let a = c .before .before .before .before .before .before .before .before .before .before .before .before .before .before .before .before .before .before .before .before .before .before .before .before .args in
-    let N = netIn (a .file .now) (a .tables .now) (a .nodes .now) in
-    let z = size-in (a .file .now) (a .tables .now) (a .nodes .now) in
-    let y = nodeAt N (a .x) in
-    let n : c .before .before .before .before .before .before .before .before .before .before .code-sources .result ≡ operands (elementAt N (a .x)) = count-is (c .before .before .before .before .before .before .before .before .before .before .before .before .before .before .before .before .before .before .before .before .before .before .before .before .pre .1 .columns) (omega (arith, c .before .before .before .before .before .before .before .before .before .before .before .before .before .before .before .before .before .before .before .before .before .before .before .before .pre .2)) (c .before .before .before .before .before .before .before .before .before .before .before .before .code-of .ensures .0) (c .before .before .before .before .before .before .before .before .before .before .code-sources .ensures .0) in
-    let taken : c .before .before .before .before .before .before .before .before .before .before .before .is-kind .result ≡ one (isRegister (elementAt N (a .x))) = register-bit (c .before .before .before .before .before .before .before .before .before .before .before .before .before .before .before .before .before .before .before .before .before .before .before .before .pre .1 .columns) (omega (arith, c .before .before .before .before .before .before .before .before .before .before .before .before .before .before .before .before .before .before .before .before .before .before .before .before .pre .2)) (c .before .before .before .before .before .before .before .before .before .before .before .before .code-of .ensures .0) (c .before .before .before .before .before .before .before .before .before .before .before .is-kind .ensures .0) in
-    let h : a .x < size N = omega (arith, c .before .before .before .before .before .before .before .before .before .before .before .before .before .before .before .before .before .before .before .before .before .before .before .before .pre .2) in
-    let own = c .before .before .before .before .before .before .before .before .before .before .before .before .before .before .wide .ensures .0 ∙ c .before .before .before .before .before .before .before .before .before .before .before .before .before .before .before .number-at .ensures in (
-      c .before .before .raise .kept .0 ∙ c .before .before .before .before .before .before .before .before .before .loop .inv .0,
-      omega (arith, raise-bit (c .before .before .raise .ensures), c .before .before .before .before .before .before .before .before .before .loop .inv .1),
+loop-again c =
+    let a = c .before .before .before .before .before .before .before .before .before .before .before .before .before .before .before .before .before .args in
+    let p = c .before .before .before .before .before .before .before .before .before .before .before .before .before .before .before .before .before .pre in
+    let k = c .before .before .before .before .before .before .before .loop .inv in
+    let own = c .before .before .before .before .before .before .before .before .before .before .before .wide .ensures .0 ∙ c .before .before .before .before .before .before .before .before .before .before .before .before .number-at .ensures in (
+      c .before .before .raise .kept .0 ∙ k .0,
+      omega (arith, raise-bit (c .before .before .raise .ensures), k .1),
       omega arith,
-      relax-more N (a .x) y refl (c .before .before .before .before .before .before .before .before .before .before .before .before .before .before .before .before .before .before .before .before .before .before .before .before .pre .1) h (subst (Excess N (a .x)) (sym own) (c .before .before .before .before .before .before .before .before .before .before .before .before .before .before .before .before .before .before .before .before .before .before .before .before .pre .3 .each (a .x) h)) (c .before .before .before .before .before .before .before .before .before .before .before .before .before .if1 .left) (operand-of N (a .x) n (omega arith)) (reads-is (c .before .before .before .before .before .before .before .before .before .before .before .before .before .before .before .before .before .before .before .before .before .before .before .before .pre .1 .columns) (omega (arith, c .before .before .before .before .before .before .before .before .before .before .before .before .before .before .before .before .before .before .before .before .before .before .before .before .pre .2)) (c .before .before .before .before .before .before .before .before .before .before .before .before .code-of .ensures .0) (omega (arith, c .before .before .before .before .before .before .before .before .loop-test .taken, c .before .before .before .before .before .before .before .before .before .before .code-sources .ensures .1)) refl (c .before .before .before .before .before .before .wide2 .ensures .0 ∙ c .before .before .before .before .before .before .before .number-at2 .ensures)) (c .before .before .before .wide-bit .ensures .0 ∙ c .before .before .before .before .flag-at .ensures) (register-of N (a .x) taken) (c .before .before .before .before .before .before .before .before .before .loop .inv .3) (c .before .before .raise .ensures),
+      relax-more _ (p .1 .2) (c .before .before .before .before .before .before .before .before .source-count .ensures .0) (p .1 .0) (subst (Excess (netOf (a .file .now) (a .net .now)) (a .x)) (sym own) (p .1 .3 .each _ (p .1 .2))) (omega (arith, c .before .before .before .before .before .before .before .before .before .before .if1 .left, p .1 .1)) (c .before .before .before .before .before .before .loop-test .taken) (c .before .before .before .before .before .source-of .ensures .0) (c .before .before .before .async-rom .ensures .0) (c .before .before .before .before .before .before .before .before .before .register .ensures .0) (k .3) (c .before .before .raise .ensures),
     )
 
 same-length-2 : tie.Need-same-length-2 Inv-loop μ-loop
 same-length-2 c = c .before .loop .inv .0
 
 returns-2 : tie.Need-returns-2 Inv-loop μ-loop
-returns-2 c = let a = c .before .before .before .before .before .before .before .before .before .before .before .before .before .before .before .before .args in
-    let N = netIn (a .file .now) (a .tables .now) (a .nodes .now) in
-    let z = size-in (a .file .now) (a .tables .now) (a .nodes .now) in
-    let y = nodeAt N (a .x) in
-    let n : c .before .before .code-sources .result ≡ operands (elementAt N (a .x)) = count-is (c .before .before .before .before .before .before .before .before .before .before .before .before .before .before .before .before .pre .1 .columns) (omega (arith, c .before .before .before .before .before .before .before .before .before .before .before .before .before .before .before .before .pre .2)) (c .before .before .before .before .code-of .ensures .0) (c .before .before .code-sources .ensures .0) in
-    let taken : c .before .before .before .is-kind .result ≡ one (isRegister (elementAt N (a .x))) = register-bit (c .before .before .before .before .before .before .before .before .before .before .before .before .before .before .before .before .pre .1 .columns) (omega (arith, c .before .before .before .before .before .before .before .before .before .before .before .before .before .before .before .before .pre .2)) (c .before .before .before .before .code-of .ensures .0) (c .before .before .before .is-kind .ensures .0) in
-    let h : a .x < size N = omega (arith, c .before .before .before .before .before .before .before .before .before .before .before .before .before .before .before .before .pre .2) in (
-      omega (arith, c .before .loop .inv .1, c .before .loop .inv .2, c .before .before .code-sources .ensures .1),
-      relax-done N (a .x) y refl (c .before .before .before .before .before .before .before .before .before .before .before .before .before .before .before .before .pre .1) h (c .before .before .before .before .before .before .wide .ensures .0 ∙ c .before .before .before .before .before .before .before .number-at .ensures) (operands-done N (a .x) n (omega (arith, c .loop-test .left))) (c .before .loop .inv .3),
-    )
+returns-2 c =
+    let k = c .before .loop .inv in
+    (omega (arith, k .1, k .2, c .before .before .source-count .ensures .1), relax-done _ (c .before .before .before .before .before .before .before .before .before .before .before .pre .1 .2) (c .before .before .source-count .ensures .0) (c .before .before .before .before .before .wide .ensures .0 ∙ c .before .before .before .before .before .before .number-at .ensures) (c .loop-test .left) (k .3))
 
 pub relax-spec : {M : Type 1} → statement M
 relax-spec =
@@ -134,16 +97,11 @@ relax-spec =
     wide-requires
     same-length
     returns
-    code-of-requires
-    is-kind-requires
-    code-sources-requires
+    register-requires
+    source-count-requires
     loop-holds
-    mul-number-at
-    add-number-at
-    number-at-requires-2
-    wide-requires-2
-    flag-at-requires
-    wide-bit-requires
+    source-of-requires
+    async-rom-requires
     add-raise
     raise-requires
     add-raised

@@ -3,21 +3,23 @@ use mathlib.Core.Path.{_≡_, refl, sym, _∙_}
 use native.Mathlib.Omega.{arith}
 use lib.ListN.{length}
 use borrow.Author.Needs.{needs}
-use Rattle.netlist.specs.File.{netIn}
-use Rattle.netlist.specs.FileLaws.{size-in}
+use Rattle.circuit.specs.Circuit.{netOf}
 use Rattle.leads.specs.Progress.{Walked, left}
 use Rattle.leads.proofs.Settling.{over-found, none-over}
 use Rattle.leads.proofs.settle.Statement.{statement}
 use Rattle.leads.proofs.settle.Tie as tie
 
 abbrev Inv-loop : tie.InvT-loop
-Inv-loop file tables nodes roms bound leads₀ codes reads leads = (length leads ≡ length leads₀) × Walked (netIn file tables nodes) leads
+Inv-loop file net bound leads₀ n leads = (length leads ≡ length leads₀) × Walked (netOf file net) leads
 
 abbrev μ-loop : tie.MeasureT-loop
-μ-loop file tables nodes roms bound leads₀ codes reads leads = left (netIn file tables nodes) leads
+μ-loop file net bound leads₀ n leads = left (netOf file net) leads
+
+node-count-requires : tie.Need-node-count-requires Inv-loop μ-loop
+node-count-requires c κs = search needs
 
 loop-holds : tie.Need-loop-holds Inv-loop μ-loop
-loop-holds c = (refl, c .before .before .before .before .before .before .before .pre .2)
+loop-holds c = (refl, c .before .before .before .before .pre .1 .2)
 
 over-bound-requires : tie.Need-over-bound-requires Inv-loop μ-loop
 over-bound-requires c κs = search needs
@@ -26,28 +28,29 @@ same-length : tie.Need-same-length Inv-loop μ-loop
 same-length c = c .before .before .before .loop .inv .0
 
 returns : tie.Need-returns Inv-loop μ-loop
-returns c = let a = c .before .before .before .before .before .before .before .before .before .before .before .args in
-    let N = netIn (a .file .now) (a .tables .now) (a .nodes .now) in
-    let z = size-in (a .file .now) (a .tables .now) (a .nodes .now) in
-    over-found N (c .before .before .before .before .before .before .before .before .before .before .before .pre .1) z (c .before .before .before .loop .inv .1) (sym (c .before .over-bound .ensures) ∙ c .if1 .taken)
+returns c =
+    let p = c .before .before .before .before .before .before .before .before .pre in
+    over-found _ (p .1 .0) (p .1 .1) (c .before .before .before .before .node-count .ensures .0) (c .before .before .before .loop .inv .1) (sym (c .before .over-bound .ensures) ∙ c .if1 .taken)
 
 pass-requires : tie.Need-pass-requires Inv-loop μ-loop
-pass-requires c κs = (c .before .before .before .before .before .before .before .before .before .before .before .before .pre .0, c .before .before .before .before .before .before .before .before .before .before .before .before .pre .1, c .before .before .before .before .loop .inv .1)
+pass-requires c κs =
+    let p = c .before .before .before .before .before .before .before .before .before .pre in
+    (p .0, (p .1 .0, p .1 .1, c .before .before .before .before .loop .inv .1))
 
 same-length-2 : tie.Need-same-length-2 Inv-loop μ-loop
-same-length-2 c = c .before .before .before .pass .kept .1 .1 .1 .1 .1 .0 ∙ c .before .before .before .before .before .before .before .before .loop .inv .0
+same-length-2 c = c .before .before .before .pass .kept .1 .1 .1 .0 ∙ c .before .before .before .before .before .before .before .before .loop .inv .0
 
 returns-2 : tie.Need-returns-2 Inv-loop μ-loop
-returns-2 c = let a = c .before .before .before .before .before .before .before .before .before .before .before .before .before .before .before .before .args in
-    let N = netIn (a .file .now) (a .tables .now) (a .nodes .now) in
-    let z = size-in (a .file .now) (a .tables .now) (a .nodes .now) in
-    none-over N (c .before .before .before .before .before .before .before .before .before .before .before .before .before .before .before .before .pre .1) z (c .before .before .before .before .before .before .before .before .loop .inv .1) (sym (c .before .before .before .before .before .before .over-bound .ensures) ∙ c .before .before .before .before .before .if1 .left) (c .before .before .before .pass .ensures) (c .if2 .taken)
+returns-2 c =
+    let p = c .before .before .before .before .before .before .before .before .before .before .before .before .before .pre in
+    let n = c .before .before .before .before .before .before .before .before .before .node-count .ensures .0 in
+    none-over _ (p .1 .0) (p .1 .1) n (c .before .before .before .before .before .before .before .before .loop .inv .1) (sym (c .before .before .before .before .before .before .over-bound .ensures) ∙ c .before .before .before .before .before .if1 .left) (c .before .before .before .pass .ensures) (c .if2 .taken)
 
 loop-less : tie.Need-loop-less Inv-loop μ-loop
 loop-less c = omega (arith, c .before .before .before .pass .ensures .falls, c .if2 .left)
 
 loop-again : tie.Need-loop-again Inv-loop μ-loop
-loop-again c = (c .before .before .before .pass .kept .1 .1 .1 .1 .1 .0 ∙ c .before .before .before .before .before .before .before .before .loop .inv .0, c .before .before .before .pass .ensures .walked)
+loop-again c = (c .before .before .before .pass .kept .1 .1 .1 .0 ∙ c .before .before .before .before .before .before .before .before .loop .inv .0, c .before .before .before .pass .ensures .walked)
 
 pub settle-spec : {M : Type 1} → statement M
 settle-spec =
@@ -55,6 +58,7 @@ settle-spec =
     (tie.spec
     Inv-loop
     μ-loop
+    node-count-requires
     loop-holds
     over-bound-requires
     same-length

@@ -1,64 +1,64 @@
--- By the node's code.
+-- By the kinds that hold a word.
 use mathlib.Core.Path.{sym, ap, _∙_}
-use Prim.Native.Nat.{ℕ}
 use native.Mathlib.Omega.{arith}
-use lib.ListN.{getD}
 use Rattle.netlist.specs.Net.{elementAt}
-use Rattle.netlist.specs.File.{netIn}
-use Rattle.nodes.specs.Code.{clockByCode, code-clock}
-use Rattle.columns.specs.Columns.{code-small}
-use Rattle.order.specs.declared.Steps.{Steps}
+use Rattle.circuit.specs.Circuit.{netOf}
 use Rattle.order.specs.Order.{classOf}
-use Rattle.order.proofs.Places.{register-counts, other-counts}
+use Rattle.order.proofs.Places.{passes-on, passes-nothing}
 use borrow.Author.Needs.{needs}
 use Rattle.order.proofs.count_at.Statement.{statement}
 use Rattle.order.proofs.count_at.Tie as tie
 
-shared-slice-read-code : tie.Need-shared-slice-read-code
-shared-slice-read-code c = search needs
-
-cast-code : tie.Need-cast-code
-cast-code c = omega (arith, c .before .before .shared-slice-known4 .given (c .before .before .before .before .before .before .args .v))
-
 enum-told : tie.Need-enum-told
 enum-told c = search needs
 
-code-in-clock-requires : tie.Need-code-in-clock-requires
-code-in-clock-requires c κs = code-small (netIn (c .before .before .before .before .before .before .before .before .args .file .now) (c .before .before .before .before .before .before .before .before .args .tables .now) (c .before .before .before .before .before .before .before .before .args .nodes .now)) (c .before .before .before .before .before .before .before .before .pre .0) (c .before .before .before .before .before .before .before .before .args .v) (c .before .before .before .before .before .before .before .before .pre .1)
+source-count-requires : tie.Need-source-count-requires
+source-count-requires c κs = search needs
+
+register-requires : tie.Need-register-requires
+register-requires c κs = search needs
+
+clocked-rom-requires : tie.Need-clocked-rom-requires
+clocked-rom-requires c κs = search needs
+
+add-held : tie.Need-add-held
+add-held c = search needs
 
 enum-told-2 : tie.Need-enum-told-2
 enum-told-2 c = search needs
 
+register-requires-2 : tie.Need-register-requires-2
+register-requires-2 c κs = search needs
+
 returns : tie.Need-returns
 returns c =
-    let N = netIn (c .before .before .before .before .before .before .before .before .before .args .file .now) (c .before .before .before .before .before .before .before .before .before .args .tables .now) (c .before .before .before .before .before .before .before .before .before .args .nodes .now) in
-    let e = elementAt N (c .before .before .before .before .before .before .before .before .before .args .v) in
-    let q = c .before .before .before .before .before .before .before .before .before .pre .0 .code (c .before .before .before .before .before .before .before .before .before .args .v) (c .before .before .before .before .before .before .before .before .before .pre .1) in
-    (c .code-in-clock .ensures .0 ∙ ap (λ (k : ℕ). getD clockByCode k 0) q ∙ code-clock e ∙ ap (λ (k : Steps). classOf k .of e) (sym (c .before .enum-told .given .1)), c .code-in-clock .ensures .1)
+    let a = c .before .before .before .before .before .before .before .before .args in
+    let e = elementAt (netOf (a .file .now) (a .net .now)) (a .v) in
+    (c .before .before .before .source-count .ensures .0 ∙ passes-on e (omega (arith, c .if1 .taken, c .before .clocked-rom .ensures .0, c .before .before .register .ensures .0)) ∙ ap (λ (k : _). classOf k .of e) (sym (c .before .before .before .before .enum-told .given .1)), c .before .before .before .source-count .ensures .1)
 
 returns-2 : tie.Need-returns-2
 returns-2 c =
-    let N = netIn (c .before .before .before .before .before .before .before .before .before .args .file .now) (c .before .before .before .before .before .before .before .before .before .args .tables .now) (c .before .before .before .before .before .before .before .before .before .args .nodes .now) in
-    let e = elementAt N (c .before .before .before .before .before .before .before .before .before .args .v) in
-    let q = c .before .before .before .before .before .before .before .before .before .pre .0 .code (c .before .before .before .before .before .before .before .before .before .args .v) (c .before .before .before .before .before .before .before .before .before .pre .1) in
-    (register-counts e (sym q ∙ c .if1 .taken) ∙ ap (λ (k : Steps). classOf k .of e) (sym (c .before .enum-told2 .given .1)), omega arith)
+    let a = c .before .before .before .before .before .before .before .before .args in
+    let e = elementAt (netOf (a .file .now) (a .net .now)) (a .v) in
+    (passes-nothing e (λ h. c .if1 .left (omega (arith, h, c .before .clocked-rom .ensures .0, c .before .before .register .ensures .0))) ∙ ap (λ (k : _). classOf k .of e) (sym (c .before .before .before .before .enum-told .given .1)), omega arith)
 
 returns-3 : tie.Need-returns-3
 returns-3 c =
-    let N = netIn (c .before .before .before .before .before .before .before .before .before .args .file .now) (c .before .before .before .before .before .before .before .before .before .args .tables .now) (c .before .before .before .before .before .before .before .before .before .args .nodes .now) in
-    let e = elementAt N (c .before .before .before .before .before .before .before .before .before .args .v) in
-    let q = c .before .before .before .before .before .before .before .before .before .pre .0 .code (c .before .before .before .before .before .before .before .before .before .args .v) (c .before .before .before .before .before .before .before .before .before .pre .1) in
-    (other-counts e (λ d. c .if1 .left (q ∙ d)) ∙ ap (λ (k : Steps). classOf k .of e) (sym (c .before .enum-told2 .given .1)), omega arith)
+    let a = c .before .before .before .before .before .args in
+    let e = elementAt (netOf (a .file .now) (a .net .now)) (a .v) in
+    (c .register2 .ensures .0 ∙ ap (λ (k : _). classOf k .of e) (sym (c .before .enum-told2 .given .1)), omega (arith, c .register2 .ensures .1))
 
 pub count-at-spec : {M : Type 1} → statement M
 count-at-spec =
     tie.close
     (tie.spec
-    shared-slice-read-code
-    cast-code
     enum-told
-    code-in-clock-requires
+    source-count-requires
+    register-requires
+    clocked-rom-requires
+    add-held
     enum-told-2
+    register-requires-2
     returns
     returns-2
     returns-3)

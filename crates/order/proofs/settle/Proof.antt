@@ -3,44 +3,54 @@ use mathlib.Core.Path.{_≡_, refl, _∙_}
 use Prim.Native.Nat.{_-_}
 use native.Mathlib.Omega.{arith}
 use lib.ListN.{length}
-use Rattle.netlist.specs.File.{netIn}
-use Rattle.netlist.specs.FileLaws.{size-in}
+use Rattle.netlist.specs.Net.{Net, inClock, size}
+use Rattle.circuit.specs.Circuit.{netOf, orderOf}
 use Rattle.order.specs.OrderLaws.{few}
-use Rattle.order.proofs.Places.{placed-rest}
-use Rattle.order.specs.Order.{classOf, Placed}
+use Rattle.order.specs.Order.{Placed, PlacedPass}
+use Rattle.order.proofs.Places.{placed-rest, Kept, asks, still}
 use Rattle.order.proofs.settle.Statement.{statement}
 use Rattle.order.proofs.settle.Tie as tie
 
 abbrev Inv-loop : tie.InvT-loop
-Inv-loop file tables nodes steps flags₀ order₀ start codes sources k₀ flags order k = (length flags ≡ length flags₀) × (length order ≡ length order₀) × Placed (classOf steps) (netIn file tables nodes) flags order k
+Inv-loop file net₀ flags₀ start k₀ net flags k = (length net ≡ length net₀) × (length flags ≡ length flags₀) × Kept file net (netOf file net₀) × Placed inClock (netOf file net₀) flags (orderOf net) k
 
 abbrev μ-loop : tie.MeasureT-loop
-μ-loop file tables nodes steps flags₀ order₀ start codes sources k₀ flags order k = length nodes - k
+μ-loop file net₀ flags₀ start k₀ net flags k = size (netOf file net₀) - k
 
 loop-holds : tie.Need-loop-holds Inv-loop μ-loop
-loop-holds c = (refl, refl, c .before .before .before .before .before .before .before .pre .2)
+loop-holds c = let p = c .before .before .before .pre in (refl, refl, record { same = refl; circuit = p .0 }, p .1 .1)
 
 sweep-requires : tie.Need-sweep-requires Inv-loop μ-loop
-sweep-requires c κs = (c .before .before .before .before .before .before .before .before .before .before .pre .0, c .before .before .before .before .before .before .before .before .before .before .pre .1, c .before .before .loop .inv .2, c .before .before .before .before .before .before .before .before .before .before .pre .3)
+sweep-requires c κs = let k = c .before .before .loop .inv in asks (k .2) (c .before .before .before .before .before .before .pre .1 .0) (k .3)
 
 same-length : tie.Need-same-length Inv-loop μ-loop
-same-length c = c .before .before .before .before .before .sweep .kept .1 .1 .1 .1 .0 ∙ c .before .before .before .before .before .before .before .before .loop .inv .0
+same-length c = c .before .before .before .before .before .sweep .kept .1 .0 ∙ c .before .before .before .before .before .before .before .before .loop .inv .0
 
 same-length-2 : tie.Need-same-length-2 Inv-loop μ-loop
-same-length-2 c = c .before .before .before .before .before .sweep .kept .1 .1 .1 .1 .1 .0 ∙ c .before .before .before .before .before .before .before .before .loop .inv .1
+same-length-2 c = c .before .before .before .before .before .sweep .kept .1 .1 .0 ∙ c .before .before .before .before .before .before .before .before .loop .inv .1
 
 returns : tie.Need-returns Inv-loop μ-loop
-returns c = placed-rest _ _ (c .before .before .before .before .before .sweep .ensures) (c .if1 .taken)
+returns c =
+    let w = c .before .before .before .before .before .sweep in
+    let u = c .before .before .before .before .before .before .before .before .loop in
+    let r = still (u .inv .2) (λ (N : Net). PlacedPass inClock N (u .flags) (w .last .1 .1 .0) (orderOf (w .last .1 .0)) (u .k) (w .result) (size N)) (w .ensures) in
+    let d = placed-rest _ _ (r .1) (c .if1 .taken) in
+    (r .0 .same, r .0 .circuit, d .0, d .1)
 
 loop-less : tie.Need-loop-less Inv-loop μ-loop
 loop-less c =
-    let a = c .before .before .before .before .before .before .before .before .before .before .before .before .before .before .before .before .args in
-    let N = netIn (a .file .now) (a .tables .now) (a .nodes .now) in
-    let s = c .before .before .before .before .before .sweep .ensures in
-    omega (arith, s .grows, c .if1 .left, few (classOf (a .steps)) N (s .holds), size-in (a .file .now) (a .tables .now) (a .nodes .now))
+    let a = c .before .before .before .before .before .before .before .before .before .before .before .before .args in
+    let w = c .before .before .before .before .before .sweep in
+    let u = c .before .before .before .before .before .before .before .before .loop in
+    let r = still (u .inv .2) (λ (N : Net). PlacedPass inClock N (u .flags) (w .last .1 .1 .0) (orderOf (w .last .1 .0)) (u .k) (w .result) (size N)) (w .ensures) in
+    omega (arith, r .1 .grows, c .if1 .left, few inClock (netOf (a .file .now) (a .net .now)) (r .1 .holds))
 
 loop-again : tie.Need-loop-again Inv-loop μ-loop
-loop-again c = (c .before .before .before .before .before .sweep .kept .1 .1 .1 .1 .0 ∙ c .before .before .before .before .before .before .before .before .loop .inv .0, c .before .before .before .before .before .sweep .kept .1 .1 .1 .1 .1 .0 ∙ c .before .before .before .before .before .before .before .before .loop .inv .1, c .before .before .before .before .before .sweep .ensures .holds)
+loop-again c =
+    let w = c .before .before .before .before .before .sweep in
+    let u = c .before .before .before .before .before .before .before .before .loop in
+    let r = still (u .inv .2) (λ (N : Net). PlacedPass inClock N (u .flags) (w .last .1 .1 .0) (orderOf (w .last .1 .0)) (u .k) (w .result) (size N)) (w .ensures) in
+    (w .kept .1 .0 ∙ u .inv .0, w .kept .1 .1 .0 ∙ u .inv .1, r .0, r .1 .holds)
 
 pub settle-spec : {M : Type 1} → statement M
 settle-spec =

@@ -1,11 +1,14 @@
 -- 13 by the plan, else written.
-use mathlib.Core.Path.{_≡_, sym, ap, _∙_}
+use mathlib.Core.Path.{ap, _∙_}
 use Prim.Native.Nat.{ℕ}
 use native.Mathlib.Omega.{arith}
 use lib.ListN.{length-replicate}
-use borrow.Author.Needs.{needs}
-use Rattle.netlist.specs.File.{netIn}
+use Rattle.netlist.specs.Net.{Net}
+use Rattle.netlist.specs.File.{encode}
+use Rattle.circuit.specs.Circuit.{netOf}
+use Rattle.retiming.specs.FileRewrite.{written}
 use Rattle.rewriter.specs.Rewriting.{rewrote, debtless-13, debtless-written}
+use borrow.Author.Needs.{needs}
 use Rattle.rewriter.proofs.rewrite_debtless.Statement.{statement}
 use Rattle.rewriter.proofs.rewrite_debtless.Tie as tie
 
@@ -16,7 +19,7 @@ slice-aggregate-find-roots-2 : tie.Need-slice-aggregate-find-roots-2
 slice-aggregate-find-roots-2 c = search needs
 
 find-roots-requires : tie.Need-find-roots-requires
-find-roots-requires c κs = (c .before .before .before .before .before .before .before .before .before .before .before .pre .0, c .before .before .before .before .before .before .before .before .before .before .before .pre .1 .sourced, c .before .before .before .before .before .before .before .before .before .before .before .pre .1 .no-ring, omega (arith, length-replicate {A = ℕ} 1024 0), omega (arith, length-replicate {A = ℕ} 1024 0), c .before .before .before .before .before .before .before .before .before .before .before .pre .6)
+find-roots-requires c κs = search needs
 
 slice-aggregate-make-plan : tie.Need-slice-aggregate-make-plan
 slice-aggregate-make-plan c = search needs
@@ -34,32 +37,37 @@ slice-aggregate-make-plan-5 : tie.Need-slice-aggregate-make-plan-5
 slice-aggregate-make-plan-5 c = search needs
 
 make-plan-requires : tie.Need-make-plan-requires
-make-plan-requires c κs = (c .before .before .before .before .before .before .before .before .before .before .before .before .before .before .before .before .before .before .before .pre .0, record { formed = c .before .before .before .before .before .before .before .before .before .before .before .before .before .before .before .before .before .before .before .pre .1; debtless = c .before .before .before .before .before .before .before .before .before .before .before .before .before .before .before .before .before .before .before .pre .5; leads-in = c .before .before .before .before .before .before .before .before .before .before .before .before .before .before .before .before .before .before .before .pre .4; traced = c .before .before .before .before .before .before .before .find-roots .ensures }, c .before .before .before .before .before .before .before .before .before .before .before .before .before .before .before .before .before .before .before .pre .6, c .before .before .before .before .before .before .before .before .before .before .before .before .before .before .before .before .before .before .before .pre .3, length-replicate {A = ℕ} 1024 0, length-replicate {A = ℕ} 1024 0, length-replicate {A = ℕ} 3072 0, c .before .before .before .before .before .before .before .before .before .before .before .before .before .before .before .before .before .before .before .pre .7)
+make-plan-requires c κs = let p = c .before .before .before .before .before .before .before .before .before .before .before .before .before .before .pre in let q = p .1 in (p .0, (record { formed = q .0; debtless = q .4; leads-in = q .3; traced = c .before .before .before .before .before .before .before .find-roots .ensures }, q .1, q .2, length-replicate {A = ℕ} 1024 0, length-replicate {A = ℕ} 1024 0, length-replicate {A = ℕ} 3072 0))
 
 returns : tie.Need-returns
-returns c = let a = c .before .before .before .before .before .before .before .before .before .before .before .before .before .before .before .before .before .before .before .before .before .before .before .before .args in
-    rewrote (debtless-13 (netIn (a .file .now) (a .tables .now) (a .nodes .now)) (a .out .now) (c .before .before .before .before .make-plan .ensures .over (c .if1 .taken)))
+returns c = let a = c .before .before .before .before .before .before .before .before .before .before .before .before .before .before .before .before .before .before .before .args in rewrote (debtless-13 (netOf (a .file .now) (a .net .now)) (a .out .now) (c .before .before .before .before .make-plan .ensures .over (c .if1 .taken)))
 
-slice-aggregate-write-planned : tie.Need-slice-aggregate-write-planned
-slice-aggregate-write-planned c = search needs
+slice-aggregate-lay-circuit : tie.Need-slice-aggregate-lay-circuit
+slice-aggregate-lay-circuit c = search needs
 
-slice-aggregate-write-planned-2 : tie.Need-slice-aggregate-write-planned-2
-slice-aggregate-write-planned-2 c = search needs
+slice-aggregate-lay-circuit-2 : tie.Need-slice-aggregate-lay-circuit-2
+slice-aggregate-lay-circuit-2 c = search needs
 
-slice-aggregate-write-planned-3 : tie.Need-slice-aggregate-write-planned-3
-slice-aggregate-write-planned-3 c = search needs
+slice-aggregate-lay-circuit-3 : tie.Need-slice-aggregate-lay-circuit-3
+slice-aggregate-lay-circuit-3 c = search needs
 
-write-planned-requires : tie.Need-write-planned-requires
-write-planned-requires c κs = (c .before .before .before .before .before .before .before .before .before .before .before .before .before .before .before .before .before .before .before .before .before .before .before .before .before .before .before .before .pre .0, c .before .before .before .before .before .before .before .before .before .before .before .before .before .before .before .before .before .before .before .before .before .before .before .before .before .before .before .before .pre .2, c .before .before .before .before .before .before .before .before .before .before .before .before .before .before .before .before .before .before .before .before .before .before .before .before .before .before .before .before .pre .6, c .before .before .before .before .before .before .before .before .make-plan .ensures .exact (c .before .before .before .before .if1 .left), c .before .before .before .before .if1 .left)
+slice-aggregate-lay-circuit-4 : tie.Need-slice-aggregate-lay-circuit-4
+slice-aggregate-lay-circuit-4 c = search needs
+
+lay-circuit-requires : tie.Need-lay-circuit-requires
+lay-circuit-requires c κs = let left = c .before .before .before .before .if1 .left in (c .before .before .before .before .before .before .before .before .before .before .before .before .before .before .before .before .before .before .before .before .before .before .before .pre .0, (c .before .before .before .before .before .before .before .before .make-plan .ensures .exact left, left, omega (arith, length-replicate {A = ℕ} 10304 0)))
+
+slice-aggregate-write-fitting : tie.Need-slice-aggregate-write-fitting
+slice-aggregate-write-fitting c = search needs
+
+write-fitting-requires : tie.Need-write-fitting-requires
+write-fitting-requires c κs = search needs
 
 same-length : tie.Need-same-length
 same-length c = search needs
 
 returns-2 : tie.Need-returns-2
-returns-2 c = let a = c .before .before .before .before .before .before .before .before .before .before .before .before .before .before .before .before .before .before .before .before .before .before .before .before .before .before .before .before .before .before .before .args in
-    let p = c .before .before .before .before .before .before .before .before .before .before .before .make-plan .ensures .exact (c .before .before .before .before .before .before .before .if1 .left) in
-    let r = rewrote (debtless-written (netIn (a .file .now) (a .tables .now) (a .nodes .now)) (a .out .now) (omega (arith, p .count, c .before .before .before .before .before .before .before .if1 .left))) in
-    (c .before .before .write-planned .ensures .0 ∙ r .0, c .before .before .write-planned .ensures .1 ∙ r .1)
+returns-2 c = let a = c .before .before .before .before .before .before .before .before .before .before .before .before .before .before .before .before .before .before .before .before .before .before .before .before .before .before .before .before .before .before .args in let left = c .before .before .before .before .before .before .before .before .before .before .before .if1 .left in let q = c .before .before .before .before .before .before .lay-circuit .ensures .0 in let r = rewrote (ap (λ (M : Net). written (encode M) (a .out .now)) q ∙ debtless-written (netOf (a .file .now) (a .net .now)) (a .out .now) (omega (arith, c .before .before .before .before .before .before .before .before .before .before .before .before .before .before .before .make-plan .ensures .exact left .count, left))) in (c .before .before .write-fitting .ensures .0 ∙ r .0, c .before .before .write-fitting .ensures .1 ∙ r .1)
 
 pub rewrite-debtless-spec : {M : Type 1} → statement M
 rewrite-debtless-spec =
@@ -75,9 +83,12 @@ rewrite-debtless-spec =
     slice-aggregate-make-plan-5
     make-plan-requires
     returns
-    slice-aggregate-write-planned
-    slice-aggregate-write-planned-2
-    slice-aggregate-write-planned-3
-    write-planned-requires
+    slice-aggregate-lay-circuit
+    slice-aggregate-lay-circuit-2
+    slice-aggregate-lay-circuit-3
+    slice-aggregate-lay-circuit-4
+    lay-circuit-requires
+    slice-aggregate-write-fitting
+    write-fitting-requires
     same-length
     returns-2)

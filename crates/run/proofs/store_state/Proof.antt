@@ -4,28 +4,27 @@ use mathlib.Core.List.{List}
 use Prim.Native.Nat.{ℕ, _+_, _-_}
 use native.Mathlib.Omega.{arith}
 use lib.ListN.{length}
-use borrow.Author.Needs.{needs}
+use Rattle.lists.specs.SelectLaws.{member, members-map}
 use Rattle.netlist.specs.Net.{size}
-use Rattle.netlist.specs.File.{netIn}
-use Rattle.netlist.specs.FileLaws.{size-in}
+use Rattle.circuit.specs.Circuit.{netOf}
 use Rattle.behaviour.specs.Run.{contentsNow, nextState}
 use Rattle.behaviour.specs.Service.{bytesOf}
 use Rattle.evaluate.specs.Rows.{rowTest}
-use Rattle.lists.specs.SelectLaws.{member, members-map}
+use Rattle.evaluate.specs.Next.{nextWord}
 use Rattle.evaluate.specs.declared.Row.the-variants.{State}
-use Rattle.run.specs.Next.{nextWord}
 use Rattle.run.proofs.Filling.{Filling, fill-none, fill-put, fill-room, fill-kept, fill-all}
+use borrow.Author.Needs.{needs}
 use Rattle.run.proofs.store_state.Statement.{statement}
 use Rattle.run.proofs.store_state.Tie as tie
 
 abbrev Inv-loop : tie.InvT-loop
-Inv-loop file tables nodes members words state₀ codes sources k₀ state k = Filling (λ u. nextWord (netIn file tables nodes) words u) members state₀ state k
+Inv-loop file net members words state₀ k₀ state k = Filling (λ u. nextWord (netOf file net) words u) members state₀ state k
 
 abbrev μ-loop : tie.MeasureT-loop
-μ-loop file tables nodes members words state₀ codes sources k₀ state k = length members - k
+μ-loop file net members words state₀ k₀ state k = length members - k
 
 loop-holds : tie.Need-loop-holds Inv-loop μ-loop
-loop-holds c = fill-none (c .before .before .before .before .before .before .before .before .pre .3)
+loop-holds c = fill-none (c .before .before .before .before .before .pre .1 .2)
 
 mul-wide : tie.Need-mul-wide Inv-loop μ-loop
 mul-wide c = omega arith
@@ -41,14 +40,11 @@ mul-put-word c = omega arith
 
 next-word-requires : tie.Need-next-word-requires Inv-loop μ-loop
 next-word-requires c κs =
-    let a = c .before .before .before .before .before .before .before .before .before .before .before .before .before .args in
-    let s = a .file .now in
-    let ts = a .tables .now in
-    let ns = a .nodes .now in
-    let N = netIn s ts ns in
-    let z = size-in s ts ns in
-    let m = member (rowTest State N) (size N) (c .before .before .before .before .before .before .before .before .before .before .before .before .before .pre .2) (c .before .before .before .loop-test .taken) (c .before .wide .ensures .0) in
-    (c .before .before .before .before .before .before .before .before .before .before .before .before .before .pre .0, c .before .before .before .before .before .before .before .before .before .before .before .before .before .pre .1, omega (arith, m .low), m .on, c .before .before .before .before .before .before .before .before .before .before .before .before .before .pre .4, c .before .before .before .before .before .before .before .before .before .before .before .before .before .pre .5)
+    let a = c .before .before .before .before .before .before .before .before .before .before .args in
+    let p = c .before .before .before .before .before .before .before .before .before .before .pre in
+    let N = netOf (a .file .now) (a .net .now) in
+    let m = member (rowTest State N) (size N) (p .1 .1) (c .before .before .before .loop-test .taken) (c .before .wide .ensures .0) in
+    (p .0, (p .1 .0, m .low, m .on, p .1 .3))
 
 put-word-requires : tie.Need-put-word-requires Inv-loop μ-loop
 put-word-requires c κs = fill-room (c .before .before .before .before .before .loop .inv) (c .before .before .before .before .loop-test .taken)
@@ -61,11 +57,8 @@ loop-less c = omega arith
 
 loop-again : tie.Need-loop-again Inv-loop μ-loop
 loop-again c =
-    let a = c .before .before .before .before .before .before .before .before .before .before .before .before .before .before .before .before .before .args in
-    let s = a .file .now in
-    let ts = a .tables .now in
-    let ns = a .nodes .now in
-    let N = netIn s ts ns in
+    let a = c .before .before .before .before .before .before .before .before .before .before .before .before .before .before .args in
+    let N = netOf (a .file .now) (a .net .now) in
     let more = fill-put (c .before .before .before .before .before .before .before .before .loop .inv) (c .before .before .before .before .before .before .before .loop-test .taken) (c .before .before .before .before .before .wide .ensures .0) (c .before .before .before .next-word .result) (c .before .before .before .next-word .ensures) in
     subst (λ (l : List ℕ). Filling (λ u. nextWord N (a .words .now) u) (a .members .now) (a .state .now) l (c .before .before .before .before .before .before .before .before .loop .k + 1)) (sym (c .before .before .put-word .ensures)) more
 
@@ -75,12 +68,9 @@ same-length c = fill-kept (c .before .loop .inv)
 returns : tie.Need-returns Inv-loop μ-loop
 unfolding nextState contentsNow
 returns c =
-    let a = c .before .before .before .before .before .before .before .before .before .before .args in
-    let s = a .file .now in
-    let ts = a .tables .now in
-    let ns = a .nodes .now in
-    let N = netIn s ts ns in
-    fill-all (c .before .loop .inv) (omega arith) ∙ ap (λ (l : List ℕ). bytesOf l) (members-map (rowTest State N) (size N) (c .before .before .before .before .before .before .before .before .before .before .pre .2) (λ u. nextWord N (a .words .now) u))
+    let a = c .before .before .before .before .before .before .before .args in
+    let N = netOf (a .file .now) (a .net .now) in
+    fill-all (c .before .loop .inv) (omega arith) ∙ ap (λ (l : List ℕ). bytesOf l) (members-map (rowTest State N) (size N) (c .before .before .before .before .before .before .before .pre .1 .1) (λ u. nextWord N (a .words .now) u))
 
 pub store-state-spec : {M : Type 1} → statement M
 store-state-spec =

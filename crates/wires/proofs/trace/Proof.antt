@@ -1,10 +1,7 @@
 -- A register that waits is traced with all that wait on its wire; any other node is traced already.
 use mathlib.Core.Path.{_∙_}
-use native.Mathlib.Omega.{arith}
-use borrow.Author.Needs.{needs}
-use Rattle.netlist.specs.File.{netIn}
-use Rattle.netlist.specs.FileLaws.{size-in}
 use Rattle.wires.specs.TracedLaws.{traced-already}
+use borrow.Author.Needs.{needs}
 use Rattle.wires.proofs.trace.Statement.{statement}
 use Rattle.wires.proofs.trace.Tie as tie
 
@@ -30,10 +27,9 @@ same-length-3 : tie.Need-same-length-3
 same-length-3 c = search needs
 
 returns-2 : tie.Need-returns-2
-returns-2 c = let a = c .before .before .before .before .before .before .before .before .before .before .args in
-    let N = netIn (a .file .now) (a .tables .now) (a .nodes .now) in
-    let z = size-in (a .file .now) (a .tables .now) (a .nodes .now) in
-    (c .before .before .before .before .before .before .before .before .before .before .pre .4, record { here = traced-already N (c .before .before .before .before .before .before .before .before .before .before .pre .4) (omega (arith, z, c .before .before .before .before .before .before .before .before .before .before .pre .3)) (λ e. c .if1 .left (c .before .number-at .ensures ∙ e)); still = λ s t. t })
+returns-2 c =
+    let p = c .before .before .before .before .before .before .before .pre in
+    (p .1 .3, record { here = traced-already _ (p .1 .3) (p .1 .2) (λ e. c .if1 .left (c .before .number-at .ensures ∙ e)); still = λ s t. t })
 
 pub trace-spec : {M : Type 1} → statement M
 trace-spec =

@@ -2,70 +2,60 @@
 use mathlib.Core.Path.{sym, _∙_}
 use native.Mathlib.Omega.{arith}
 use borrow.Author.Needs.{needs}
-use Rattle.netlist.specs.File.{netIn}
-use Rattle.netlist.specs.FileLaws.{size-in}
+use Rattle.circuit.specs.Circuit.{netOf}
 use Rattle.retiming.specs.Rewrite.{passed}
-use Rattle.wires.specs.TracedLaws.{Back, back-none, back-waiting, back-more, passed-few, traced-already}
+use Rattle.wires.specs.TracedLaws.{Back, passed-few, back-more, back-waiting, traced-already}
 use Rattle.wires.proofs.wire_of.Statement.{statement}
 use Rattle.wires.proofs.wire_of.Tie as tie
 
 abbrev Inv-loop : tie.InvT-loop
-Inv-loop file tables nodes v roots passes codes reads u₀ count₀ u count = Back (netIn file tables nodes) v u count
+Inv-loop file net v roots passes u₀ count₀ u count = Back (netOf file net) v u count
 
 abbrev μ-loop : tie.MeasureT-loop
-μ-loop file tables nodes v roots passes codes reads u₀ count₀ u count = passed (netIn file tables nodes) u
+μ-loop file net v roots passes u₀ count₀ u count = passed (netOf file net) u
 
 loop-holds : tie.Need-loop-holds Inv-loop μ-loop
-loop-holds c = let a = c .before .before .before .before .before .before .before .args in
-    back-none (omega (arith, size-in (a .file .now) (a .tables .now) (a .nodes .now), c .before .before .before .before .before .before .before .pre .3))
+loop-holds c = search needs
 
 number-at-requires : tie.Need-number-at-requires Inv-loop μ-loop
 number-at-requires c κs = search needs
 
-mul-number-at : tie.Need-mul-number-at Inv-loop μ-loop
-mul-number-at c = let a = c .before .before .before .before .before .before .before .before .before .before .args in
-    omega (arith, size-in (a .file .now) (a .tables .now) (a .nodes .now), c .before .before .loop .inv .inside, c .before .before .before .before .before .before .before .before .before .before .pre .0 .few-nodes)
+source-of-requires : tie.Need-source-of-requires Inv-loop μ-loop
+source-of-requires c κs = search needs
+
+add-count : tie.Need-add-count Inv-loop μ-loop
+add-count c =
+    let a = c .before .before .before .before .before .before .before .before .args in
+    omega (arith, c .before .before .before .loop .inv .more, passed-few (netOf (a .file .now) (a .net .now)) (a .v), c .before .before .before .before .before .before .before .before .pre .0 .few)
+
+loop-less : tie.Need-loop-less Inv-loop μ-loop
+loop-less c =
+    let p = c .before .before .before .before .before .before .before .before .pre in
+    omega (arith, back-waiting _ (p .1 .3) (c .before .before .before .loop .inv .inside) (p .1 .0) (p .1 .1) (p .0 .few) (sym (c .before .before .number-at .ensures) ∙ c .before .if1 .taken) (c .source-of .ensures .0) .more)
+
+loop-again : tie.Need-loop-again Inv-loop μ-loop
+loop-again c =
+    let p = c .before .before .before .before .before .before .before .before .pre in
+    back-more (c .before .before .before .loop .inv) (back-waiting _ (p .1 .3) (c .before .before .before .loop .inv .inside) (p .1 .0) (p .1 .1) (p .0 .few) (sym (c .before .before .number-at .ensures) ∙ c .before .if1 .taken) (c .source-of .ensures .0))
 
 number-at-requires-2 : tie.Need-number-at-requires-2 Inv-loop μ-loop
 number-at-requires-2 c κs = search needs
 
-wide-requires : tie.Need-wide-requires Inv-loop μ-loop
-wide-requires c κs = search needs
-
-add-count : tie.Need-add-count Inv-loop μ-loop
-add-count c = let a = c .before .before .before .before .before .before .before .before .before .before .before .before .args in
-    let N = netIn (a .file .now) (a .tables .now) (a .nodes .now) in
-    omega (arith, size-in (a .file .now) (a .tables .now) (a .nodes .now), c .before .before .before .before .loop .inv .more, passed-few N (a .v), c .before .before .before .before .before .before .before .before .before .before .before .before .pre .0 .few-nodes)
-
-loop-less : tie.Need-loop-less Inv-loop μ-loop
-loop-less c = let a = c .before .before .before .before .before .before .before .before .before .before .before .before .args in
-    let N = netIn (a .file .now) (a .tables .now) (a .nodes .now) in
-    let z = size-in (a .file .now) (a .tables .now) (a .nodes .now) in
-    omega (arith, back-waiting N (c .before .before .before .before .before .before .before .before .before .before .before .before .pre .4) (c .before .before .before .before .loop .inv .inside) (c .before .before .before .before .before .before .before .before .before .before .before .before .pre .1) (c .before .before .before .before .before .before .before .before .before .before .before .before .pre .2) (c .before .before .before .before .before .before .before .before .before .before .before .before .pre .5) z (c .before .before .before .before .before .before .before .before .before .before .before .before .pre .0 .few-nodes) (sym (c .before .before .before .number-at .ensures) ∙ c .before .before .if1 .taken) (c .wide .ensures .0 ∙ c .before .number-at2 .ensures) .more)
-
-loop-again : tie.Need-loop-again Inv-loop μ-loop
-loop-again c = let a = c .before .before .before .before .before .before .before .before .before .before .before .before .args in
-    let N = netIn (a .file .now) (a .tables .now) (a .nodes .now) in
-    let z = size-in (a .file .now) (a .tables .now) (a .nodes .now) in
-    back-more (c .before .before .before .before .loop .inv) (back-waiting N (c .before .before .before .before .before .before .before .before .before .before .before .before .pre .4) (c .before .before .before .before .loop .inv .inside) (c .before .before .before .before .before .before .before .before .before .before .before .before .pre .1) (c .before .before .before .before .before .before .before .before .before .before .before .before .pre .2) (c .before .before .before .before .before .before .before .before .before .before .before .before .pre .5) z (c .before .before .before .before .before .before .before .before .before .before .before .before .pre .0 .few-nodes) (sym (c .before .before .before .number-at .ensures) ∙ c .before .before .if1 .taken) (c .wide .ensures .0 ∙ c .before .number-at2 .ensures))
-
 number-at-requires-3 : tie.Need-number-at-requires-3 Inv-loop μ-loop
 number-at-requires-3 c κs = search needs
 
-number-at-requires-4 : tie.Need-number-at-requires-4 Inv-loop μ-loop
-number-at-requires-4 c κs = search needs
-
-add-t16 : tie.Need-add-t16 Inv-loop μ-loop
-add-t16 c = let a = c .before .before .before .before .before .before .before .before .before .before .before .before .args in
-    let N = netIn (a .file .now) (a .tables .now) (a .nodes .now) in
-    let t = traced-already N (c .before .before .before .before .before .before .before .before .before .before .before .before .pre .4) (c .before .before .before .before .loop .inv .inside) (λ e. c .before .before .if1 .left (c .before .before .before .number-at .ensures ∙ e)) in
-    omega (arith, size-in (a .file .now) (a .tables .now) (a .nodes .now), t .through, c .number-at4 .ensures, c .before .before .before .before .loop .inv .more, passed-few N (a .v), c .before .before .before .before .before .before .before .before .before .before .before .before .pre .0 .few-nodes)
+add-t12 : tie.Need-add-t12 Inv-loop μ-loop
+add-t12 c =
+    let k = c .before .before .before .before .loop .inv in
+    let t = traced-already _ (c .before .before .before .before .before .before .before .before .before .pre .1 .3) (k .inside) (λ e. c .before .before .if1 .left (c .before .before .before .number-at .ensures ∙ e)) in
+    let a = c .before .before .before .before .before .before .before .before .before .args in
+    omega (arith, passed-few (netOf (a .file .now) (a .net .now)) (a .v), c .before .before .before .before .before .before .before .before .before .pre .0 .few, c .number-at3 .ensures)
 
 returns : tie.Need-returns Inv-loop μ-loop
-returns c = let a = c .before .before .before .before .before .before .before .before .before .before .before .before .args in
-    let N = netIn (a .file .now) (a .tables .now) (a .nodes .now) in
-    let t = traced-already N (c .before .before .before .before .before .before .before .before .before .before .before .before .pre .4) (c .before .before .before .before .loop .inv .inside) (λ e. c .before .before .if1 .left (c .before .before .before .number-at .ensures ∙ e)) in
-    (c .before .number-at3 .ensures ∙ t .from ∙ sym (c .before .before .before .before .loop .inv .same-root), omega (arith, t .through, c .number-at4 .ensures, c .before .before .before .before .loop .inv .more))
+returns c =
+    let k = c .before .before .before .before .loop .inv in
+    let t = traced-already _ (c .before .before .before .before .before .before .before .before .before .pre .1 .3) (k .inside) (λ e. c .before .before .if1 .left (c .before .before .before .number-at .ensures ∙ e)) in
+    (c .before .number-at2 .ensures ∙ t .from ∙ sym (k .same-root), omega (arith, c .number-at3 .ensures))
 
 pub wire-of-spec : {M : Type 1} → statement M
 wire-of-spec =
@@ -75,13 +65,11 @@ wire-of-spec =
     μ-loop
     loop-holds
     number-at-requires
-    mul-number-at
-    number-at-requires-2
-    wide-requires
+    source-of-requires
     add-count
     loop-less
     loop-again
+    number-at-requires-2
     number-at-requires-3
-    number-at-requires-4
-    add-t16
+    add-t12
     returns)

@@ -1,28 +1,29 @@
 -- The sum of two bits.
-use mathlib.Core.Path.{ap₂}
+use Rattle.netlist.specs.Net.{elementAt, isMemory}
+use Rattle.circuit.specs.Circuit.{netOf}
+use mathlib.Core.Path.{ap₂, _∙_}
 use Prim.Native.Nat.{_+_}
 use native.Mathlib.Omega.{arith}
+use Rattle.wiring.specs.WiringLaws.{one-few, memory-sum}
 use borrow.Author.Needs.{needs}
 use Rattle.wiring.proofs.memory_bit.Statement.{statement}
 use Rattle.wiring.proofs.memory_bit.Tie as tie
 
-is-kind-requires : tie.Need-is-kind-requires
-is-kind-requires c κs = search needs
+async-rom-requires : tie.Need-async-rom-requires
+async-rom-requires c κs = search needs
 
-is-kind-requires-2 : tie.Need-is-kind-requires-2
-is-kind-requires-2 c κs = search needs
+clocked-rom-requires : tie.Need-clocked-rom-requires
+clocked-rom-requires c κs = search needs
 
 add-result : tie.Need-add-result
-add-result c = omega (arith, c .before .is-kind .ensures .1, c .is-kind2 .ensures .1)
+add-result c = search needs
 
 returns : tie.Need-returns
-returns c = (ap₂ _+_ (c .before .is-kind .ensures .0) (c .is-kind2 .ensures .0), omega (arith, c .before .is-kind .ensures .1, c .is-kind2 .ensures .1))
+returns c =
+    let a = c .before .before .before .before .args in
+    let e = elementAt (netOf (a .file .now) (a .net .now)) (a .v) in
+    let q = ap₂ _+_ (c .before .async-rom .ensures .0) (c .clocked-rom .ensures .0) ∙ memory-sum e in
+    (q, omega (arith, q, one-few (isMemory e)))
 
 pub memory-bit-spec : {M : Type 1} → statement M
-memory-bit-spec =
-    tie.close
-    (tie.spec
-    is-kind-requires
-    is-kind-requires-2
-    add-result
-    returns)
+memory-bit-spec = tie.close (tie.spec async-rom-requires clocked-rom-requires add-result returns)

@@ -1,6 +1,8 @@
--- By the code.
-use borrow.Author.Needs.{needs}
+-- By the kind of the node.
+use Rattle.netlist.specs.Net.{elementAt}
+use Rattle.circuit.specs.Circuit.{netOf}
 use Rattle.wiring.specs.WiringLaws.{rom-some, rom-none}
+use borrow.Author.Needs.{needs}
 use Rattle.wiring.proofs.rom_clock.Statement.{statement}
 use Rattle.wiring.proofs.rom_clock.Tie as tie
 
@@ -8,15 +10,14 @@ memory-bit-requires : tie.Need-memory-bit-requires
 memory-bit-requires c κs = search needs
 
 returns : tie.Need-returns
-returns c = rom-some (c .before .before .args .clock) (c .before .memory-bit .ensures .0) (c .if1 .taken)
+returns c =
+    let a = c .before .before .before .before .args in
+    rom-some (elementAt (netOf (a .file .now) (a .net .now)) (a .u)) (a .clock) (c .before .memory-bit .ensures .0) (c .if1 .taken)
 
 returns-2 : tie.Need-returns-2
-returns-2 c = rom-none (c .before .before .args .clock) (c .before .memory-bit .ensures .0) (c .if1 .left)
+returns-2 c =
+    let a = c .before .before .before .before .args in
+    rom-none (elementAt (netOf (a .file .now) (a .net .now)) (a .u)) (a .clock) (c .before .memory-bit .ensures .0) (c .if1 .left)
 
 pub rom-clock-spec : {M : Type 1} → statement M
-rom-clock-spec =
-    tie.close
-    (tie.spec
-    memory-bit-requires
-    returns
-    returns-2)
+rom-clock-spec = tie.close (tie.spec memory-bit-requires returns returns-2)

@@ -1,4 +1,4 @@
--- The loop's invariant: the node is a number of 16 bits, and so is each rank that is still to be given.
+-- The loop's invariant: each rank that is still to be given is a word.
 use mathlib.Core.Path.{_≡_, refl, _∙_}
 use mathlib.Core.Logic.{⊎-elim}
 use Prim.Native.Nat.{_+_, _≤_, _<_}
@@ -9,40 +9,34 @@ use Rattle.cycles.proofs.rings.rank_chain.Statement.{statement}
 use Rattle.cycles.proofs.rings.rank_chain.Tie as tie
 
 abbrev Inv-loop : tie.InvT-loop
-Inv-loop sources start ranks₀ base left₀ v₀ ranks left v = (length ranks ≡ length ranks₀) × (v ≤ 65535) × (0 < left → base + left ≤ 65535)
+Inv-loop file net start ranks₀ base left₀ v₀ ranks left v = (length ranks ≡ length ranks₀) × (0 < left → base + left ≤ 65535)
 
 abbrev μ-loop : tie.MeasureT-loop
-μ-loop sources start ranks₀ base left₀ v₀ ranks left v = left
+μ-loop file net start ranks₀ base left₀ v₀ ranks left v = left
 
 loop-holds : tie.Need-loop-holds Inv-loop μ-loop
-loop-holds c = (refl, c .before .before .before .pre .0, λ h. ⊎-elim (λ w. absurd (omega (arith, h, w .1))) (λ w. omega (arith, w .0 .left, w .1, c .before .before .before .pre .1)) (c .if1 .came))
+loop-holds c = (refl, λ h. ⊎-elim (λ w. absurd (omega (arith, h, w .1))) (λ w. omega (arith, w .0 .left, w .1, c .before .before .before .before .pre .1)) (c .if1 .came))
 
 add-put-number : tie.Need-add-put-number Inv-loop μ-loop
-add-put-number c = omega (arith, c .before .before .before .loop .inv .2 (c .before .before .loop-test .taken))
+add-put-number c = omega (arith, c .before .before .before .loop .inv .1 (c .before .before .loop-test .taken))
 
 cast-put-number : tie.Need-cast-put-number Inv-loop μ-loop
-cast-put-number c = omega (arith, c .before .before .before .loop .inv .2 (c .before .before .loop-test .taken))
+cast-put-number c = omega (arith, c .before .before .before .loop .inv .1 (c .before .before .loop-test .taken))
 
 put-number-requires : tie.Need-put-number-requires Inv-loop μ-loop
 put-number-requires c κs = search needs
 
-mul-number-at : tie.Need-mul-number-at Inv-loop μ-loop
-mul-number-at c = omega (arith, c .before .before .before .before .before .before .loop .inv .1)
-
-number-at-requires : tie.Need-number-at-requires Inv-loop μ-loop
-number-at-requires c κs = search needs
-
-wide-requires : tie.Need-wide-requires Inv-loop μ-loop
-wide-requires c κs = search needs
+source-at-requires : tie.Need-source-at-requires Inv-loop μ-loop
+source-at-requires c κs = search needs
 
 sub-left : tie.Need-sub-left Inv-loop μ-loop
-sub-left c = omega arith
+sub-left c = search needs
 
 loop-less : tie.Need-loop-less Inv-loop μ-loop
-loop-less c = omega arith
+loop-less c = search needs
 
 loop-again : tie.Need-loop-again Inv-loop μ-loop
-loop-again c = (c .before .before .before .before .put-number .kept .0 ∙ c .before .before .before .before .before .before .before .before .loop .inv .0, c .wide .ensures .1, λ h. omega (arith, c .before .before .before .before .before .before .before .before .loop .inv .2 (c .before .before .before .before .before .before .before .loop-test .taken)))
+loop-again c = (c .before .before .before .put-number .kept .0 ∙ c .before .before .before .before .before .before .before .loop .inv .0, λ h. omega (arith, c .before .before .before .before .before .before .before .loop .inv .1 (c .before .before .before .before .before .before .loop-test .taken)))
 
 same-length : tie.Need-same-length Inv-loop μ-loop
 same-length c = c .before .loop .inv .0
@@ -60,9 +54,7 @@ rank-chain-spec =
     add-put-number
     cast-put-number
     put-number-requires
-    mul-number-at
-    number-at-requires
-    wide-requires
+    source-at-requires
     sub-left
     loop-less
     loop-again

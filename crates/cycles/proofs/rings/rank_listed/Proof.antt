@@ -1,8 +1,7 @@
 -- The loop's invariant: the ranks keep their number.
 use mathlib.Core.Path.{_≡_, ap, _∙_}
 use mathlib.Core.Logic.{⊎-elim}
-use mathlib.Core.List.{List}
-use Prim.Native.Nat.{ℕ, _-_, _≤_}
+use Prim.Native.Nat.{_-_, _≤_}
 use native.Mathlib.Omega.{arith}
 use lib.ListN.{length}
 use borrow.Author.Needs.{needs}
@@ -10,13 +9,13 @@ use Rattle.cycles.proofs.rings.rank_listed.Statement.{statement}
 use Rattle.cycles.proofs.rings.rank_listed.Tie as tie
 
 abbrev Inv-loop : tie.InvT-loop
-Inv-loop codes sources list count ranks₀ i₀ ranks i = (length ranks ≡ length ranks₀) × (i ≤ count)
+Inv-loop file net list count ranks₀ i₀ ranks i = (length ranks ≡ length ranks₀) × (i ≤ count)
 
 abbrev μ-loop : tie.MeasureT-loop
-μ-loop codes sources list count ranks₀ i₀ ranks i = count - i
+μ-loop file net list count ranks₀ i₀ ranks i = count - i
 
 loop-holds : tie.Need-loop-holds Inv-loop μ-loop
-loop-holds c = omega arith
+loop-holds c = search needs
 
 number-at-requires : tie.Need-number-at-requires Inv-loop μ-loop
 number-at-requires c κs = search needs
@@ -34,21 +33,21 @@ rank-chain-requires : tie.Need-rank-chain-requires Inv-loop μ-loop
 rank-chain-requires c κs = search needs
 
 add-i : tie.Need-add-i Inv-loop μ-loop
-add-i c = omega arith
+add-i c = search needs
 
 loop-less : tie.Need-loop-less Inv-loop μ-loop
-loop-less c = omega arith
+loop-less c = search needs
 
 loop-again : tie.Need-loop-again Inv-loop μ-loop
 loop-again c =
-    let inv = c .before .before .before .before .before .before .loop .inv .0 in
-    (⊎-elim (λ w. ap (λ (x : List ℕ). length x) (w .9) ∙ w .6 .kept .1 .1 .1 .0 ∙ w .2 .kept .1 .1 .1 .0 ∙ inv) (λ w. ap (λ (x : List ℕ). length x) (w .1) ∙ inv) (c .if1 .came), omega arith)
+    let k = c .before .before .before .before .before .before .loop .inv .0 in
+    (⊎-elim (λ w. ap length (w .9) ∙ w .6 .kept .1 .1 .1 .1 .0 ∙ w .2 .kept .1 .1 .1 .0 ∙ k) (λ w. ap length (w .1) ∙ k) (c .if1 .came), omega arith)
 
 same-length : tie.Need-same-length Inv-loop μ-loop
-same-length c = omega arith
+same-length c = search needs
 
 returns : tie.Need-returns Inv-loop μ-loop
-returns c = omega arith
+returns c = search needs
 
 pub rank-listed-spec : {M : Type 1} → statement M
 rank-listed-spec =

@@ -1,42 +1,33 @@
 -- The loop's invariant: without a fault the rank falls along the steps into the nodes before v.
-use mathlib.Core.Path.{_≡_, ap}
-use Prim.Native.Nat.{ℕ, _-_, _≤_}
+use mathlib.Core.Path.{_≡_, ap, _∙_}
+use Prim.Native.Nat.{ℕ, _-_, _≤_, _<_}
 use native.Mathlib.Omega.{arith}
-use lib.ListN.{length, getD}
-use borrow.Author.Needs.{needs}
+use lib.ListN.{getD}
 use Rattle.lists.specs.BelowLaws.{eqb-true}
-use Rattle.netlist.specs.File.{netIn}
-use Rattle.netlist.specs.FileLaws.{size-in}
-use Rattle.cycles.specs.Falls.{FallsBelow, falls-more, falls-all, code-falls}
+use Rattle.netlist.specs.Net.{source}
+use Rattle.circuit.specs.Circuit.{netOf}
+use Rattle.cycles.specs.Falls.{FallsBelow, falls-more, falls-all, register-falls}
+use borrow.Author.Needs.{needs}
 use Rattle.cycles.proofs.rings.ranked.Statement.{statement}
 use Rattle.cycles.proofs.rings.ranked.Tie as tie
 
 abbrev Inv-loop : tie.InvT-loop
-Inv-loop file tables nodes ranks codes sources v₀ faults₀ v faults = (v ≤ length nodes) × (faults ≤ v) × (faults ≡ 0 → FallsBelow (netIn file tables nodes) (λ u. getD ranks u 0) v)
+Inv-loop file net ranks n v₀ faults₀ v faults = (v ≤ n) × (faults ≤ v) × (faults ≡ 0 → FallsBelow (netOf file net) (λ u. getD ranks u 0) v)
 
 abbrev μ-loop : tie.MeasureT-loop
-μ-loop file tables nodes ranks codes sources v₀ faults₀ v faults = length nodes - v
+μ-loop file net ranks n v₀ faults₀ v faults = n - v
+
+node-count-requires : tie.Need-node-count-requires Inv-loop μ-loop
+node-count-requires c κs = search needs
 
 loop-holds : tie.Need-loop-holds Inv-loop μ-loop
 loop-holds c = (omega arith, omega arith, λ _ u h. absurd (omega arith))
 
-mul-wide : tie.Need-mul-wide Inv-loop μ-loop
-mul-wide c = omega (arith, c .loop-test .taken, c .before .before .before .before .before .before .before .before .pre .0 .few-nodes)
+source-of-requires : tie.Need-source-of-requires Inv-loop μ-loop
+source-of-requires c κs = search needs
 
-mul-wide-2 : tie.Need-mul-wide-2 Inv-loop μ-loop
-mul-wide-2 c = omega (arith, c .loop-test .taken, c .before .before .before .before .before .before .before .before .pre .0 .few-nodes)
-
-shared-slice-read-wide : tie.Need-shared-slice-read-wide Inv-loop μ-loop
-shared-slice-read-wide c = omega (arith, c .before .loop-test .taken, c .before .before .before .before .before .before .before .before .before .pre .0 .few-nodes, c .before .before .before .before .before .before .before .before .before .pre .1 .source-room)
-
-wide-requires : tie.Need-wide-requires Inv-loop μ-loop
-wide-requires c κs = search needs
-
-shared-slice-read-fault : tie.Need-shared-slice-read-fault Inv-loop μ-loop
-shared-slice-read-fault c = omega (arith, c .before .before .before .loop-test .taken, c .before .before .before .before .before .before .before .before .before .before .before .pre .0 .few-nodes, c .before .before .before .before .before .before .before .before .before .before .before .pre .1 .code-room)
-
-cast-fault : tie.Need-cast-fault Inv-loop μ-loop
-cast-fault c = omega (arith, c .before .before .before .before .before .before .shared-slice-known5 .given (c .before .before .before .before .loop .v))
+register-requires : tie.Need-register-requires Inv-loop μ-loop
+register-requires c κs = search needs
 
 number-at-requires : tie.Need-number-at-requires Inv-loop μ-loop
 number-at-requires c κs = search needs
@@ -48,31 +39,29 @@ fault-requires : tie.Need-fault-requires Inv-loop μ-loop
 fault-requires c κs = search needs
 
 add-faults : tie.Need-add-faults Inv-loop μ-loop
-add-faults c = omega (arith, c .before .before .before .before .before .before .before .loop .inv .1, c .before .before .before .before .before .before .loop-test .taken, c .before .before .before .before .before .before .before .before .before .before .before .before .before .before .pre .0 .few-nodes, c .fault .ensures .0)
+add-faults c = search needs
 
 add-v : tie.Need-add-v Inv-loop μ-loop
-add-v c = omega (arith, c .before .before .before .before .before .before .loop-test .taken, c .before .before .before .before .before .before .before .before .before .before .before .before .before .before .pre .0 .few-nodes)
+add-v c = search needs
 
 loop-less : tie.Need-loop-less Inv-loop μ-loop
-loop-less c = omega (arith, c .before .before .before .before .before .before .loop-test .taken)
+loop-less c = search needs
 
 loop-again : tie.Need-loop-again Inv-loop μ-loop
 loop-again c =
-    let a = c .before .before .before .before .before .before .before .before .before .before .before .before .before .before .args in
-    let N = netIn (a .file .now) (a .tables .now) (a .nodes .now) in
+    let a = c .before .before .before .before .before .before .before .before .before .before .before .args in
+    let N = netOf (a .file .now) (a .net .now) in
     let rank : ℕ → ℕ = λ u. getD (a .ranks .now) u 0 in
-    let v = c .before .before .before .before .before .before .before .loop .v in
-    let h = c .before .before .before .before .before .before .loop-test .taken in (
-      omega (arith, h),
-      omega (arith, c .before .before .before .before .before .before .before .loop .inv .1, c .fault .ensures .0),
-      λ e. falls-more N rank v (c .before .before .before .before .before .before .before .loop .inv .2 (omega (arith, e)))
-          (code-falls N rank (c .before .before .before .before .before .before .before .before .before .before .before .before .before .before .pre .1) v h (λ k. omega (arith, ap rank (c .before .before .before .before .wide .ensures .0), c .before .before .number-at .ensures, c .before .number-at2 .ensures, c .fault .ensures .1 (omega (arith, e)) k))),
-    )
+    let k = c .before .before .before .before .before .before .loop .inv in
+    let read = c .before .number-at2 .ensures ∙ ap rank (c .before .before .before .before .source-of .ensures .0) in
+    let v = c .before .before .before .before .before .before .loop .v in
+    let falls : c .fault .result ≡ 0 → 0 < c .before .before .before .register .result → rank (source N v 0) < rank v = λ z h. omega (arith, read, c .before .before .number-at .ensures, c .fault .ensures .1 z h) in
+    (omega arith, omega (arith, c .fault .ensures .0), λ e. falls-more N rank v (k .2 (omega (arith, e))) (register-falls N rank (c .before .before .before .register .ensures .0) (falls (omega (arith, e)))))
 
 returns : tie.Need-returns Inv-loop μ-loop
 returns c =
-    let a = c .before .before .before .before .before .before .before .before .args in
-    λ e. falls-all (netIn (a .file .now) (a .tables .now) (a .nodes .now)) (λ u. getD (a .ranks .now) u 0) (size-in (a .file .now) (a .tables .now) (a .nodes .now)) (omega (arith, c .loop-test .left, c .before .loop .inv .0)) (c .before .loop .inv .2 (eqb-true e))
+    let a = c .before .before .before .before .before .before .args in
+    λ e. falls-all (netOf (a .file .now) (a .net .now)) (λ u. getD (a .ranks .now) u 0) (omega (arith, c .loop-test .left, c .before .before .node-count .ensures .0)) (c .before .loop .inv .2 (eqb-true e))
 
 pub ranked-spec : {M : Type 1} → statement M
 ranked-spec =
@@ -80,13 +69,10 @@ ranked-spec =
     (tie.spec
     Inv-loop
     μ-loop
+    node-count-requires
     loop-holds
-    mul-wide
-    mul-wide-2
-    shared-slice-read-wide
-    wide-requires
-    shared-slice-read-fault
-    cast-fault
+    source-of-requires
+    register-requires
     number-at-requires
     number-at-requires-2
     fault-requires

@@ -5,34 +5,36 @@ use native.Mathlib.Omega.{arith}
 use lib.ListN.{length, take, set, length-set}
 use borrow.Author.Needs.{needs}
 use Rattle.lists.specs.Lists.{one, select}
-use Rattle.netlist.specs.Net.{size}
-use Rattle.netlist.specs.File.{netIn}
-use Rattle.netlist.specs.FileLaws.{size-in}
-use Rattle.evaluate.specs.Rows.{rowTest}
 use Rattle.lists.specs.SelectLaws.{list-more}
+use Rattle.netlist.specs.Net.{size}
+use Rattle.circuit.specs.Circuit.{netOf}
+use Rattle.evaluate.specs.Rows.{rowTest}
 use Rattle.evaluate.proofs.lent.row_members.Statement.{statement}
 use Rattle.evaluate.proofs.lent.row_members.Tie as tie
 
 abbrev Inv-loop : tie.InvT-loop
-Inv-loop file tables nodes row members₀ codes sources count₀ v₀ members count v = (v ≤ length nodes) × (count ≤ v) × (length members ≡ length members₀) × (take count members ≡ select (rowTest row (netIn file tables nodes)) (λ u. u) v)
+Inv-loop file net row members₀ n count₀ v₀ members count v = (v ≤ n) × (count ≤ v) × (length members ≡ length members₀) × (take count members ≡ select (rowTest row (netOf file net)) (λ u. u) v)
 
 abbrev μ-loop : tie.MeasureT-loop
-μ-loop file tables nodes row members₀ codes sources count₀ v₀ members count v = length nodes - v
+μ-loop file net row members₀ n count₀ v₀ members count v = n - v
+
+node-count-requires : tie.Need-node-count-requires Inv-loop μ-loop
+node-count-requires c κs = search needs
 
 loop-holds : tie.Need-loop-holds Inv-loop μ-loop
 loop-holds c = (omega arith, omega arith, refl, refl)
 
 cast-members : tie.Need-cast-members Inv-loop μ-loop
-cast-members c = omega (arith, c .before .before .before .before .before .before .before .before .pre .0 .few-nodes)
+cast-members c = omega arith
 
 mul-members : tie.Need-mul-members Inv-loop μ-loop
-mul-members c = omega (arith, c .before .before .before .before .before .before .before .before .pre .0 .few-nodes)
+mul-members c = omega arith
 
 slice-write-members : tie.Need-slice-write-members Inv-loop μ-loop
-slice-write-members c = omega (arith, c .before .before .before .before .before .before .before .before .pre .0 .few-nodes)
+slice-write-members c = omega arith
 
-in-row-by-requires : tie.Need-in-row-by-requires Inv-loop μ-loop
-in-row-by-requires c κs = (c .before .before .before .before .before .before .before .before .pre .0, c .loop-test .taken, c .before .before .before .before .before .before .before .before .pre .2)
+in-row-requires : tie.Need-in-row-requires Inv-loop μ-loop
+in-row-requires c κs = (c .before .before .before .before .before .before .pre .0, omega (arith, c .before .before .node-count .ensures .0))
 
 one-if-requires : tie.Need-one-if-requires Inv-loop μ-loop
 one-if-requires c κs = search needs
@@ -48,18 +50,13 @@ loop-less c = omega arith
 
 loop-again : tie.Need-loop-again Inv-loop μ-loop
 loop-again c =
-    let a = c .before .before .before .before .before .before .before .before .before .before .args in
-    let s = a .file .now in
-    let ts = a .tables .now in
-    let ns = a .nodes .now in
-    let l = c .before .before .before .loop .members in
-    let k = c .before .before .before .loop .count in
-    let v = c .before .before .before .loop .v in (
+    let a = c .before .before .before .before .before .before .before .before .args in
+    let t = c .before .before .before .loop in (
       omega arith,
       omega arith,
-      length-set l k v ∙ c .before .before .before .loop .inv .2,
-      ap (λ (j : ℕ). take (k + j) (set l k v)) (c .one-if .ensures .0 ∙ ap one (c .before .in-row-by .ensures))
-          ∙ list-more (rowTest (a .row) (netIn s ts ns)) l k v (omega (arith, c .before .before .before .before .before .before .before .before .before .before .pre .0 .few-nodes)) (c .before .before .before .loop .inv .3),
+      length-set (t .members) (t .count) (t .v) ∙ t .inv .2,
+      ap (λ (j : ℕ). take (t .count + j) (set (t .members) (t .count) (t .v))) (c .one-if .ensures .0 ∙ ap one (c .before .in-row .ensures))
+          ∙ list-more (rowTest (a .row) (netOf (a .file .now) (a .net .now))) (t .members) (t .count) (t .v) (omega arith) (t .inv .3),
     )
 
 same-length : tie.Need-same-length Inv-loop μ-loop
@@ -67,14 +64,10 @@ same-length c = c .before .loop .inv .2
 
 returns : tie.Need-returns Inv-loop μ-loop
 returns c =
-    let a = c .before .before .before .before .before .before .before .before .args in
-    let s = a .file .now in
-    let ts = a .tables .now in
-    let ns = a .nodes .now in
-    let N = netIn s ts ns in
-    let z = size-in s ts ns in
-    let e : c .before .loop .v ≡ size N = omega arith in
-    (c .before .loop .inv .3 ∙ ap (select (rowTest (a .row) N) (λ u. u)) e, omega (arith, c .before .before .before .before .before .before .before .before .pre .0 .few-nodes))
+    let a = c .before .before .before .before .before .before .args in
+    let N = netOf (a .file .now) (a .net .now) in
+    let e : c .before .loop .v ≡ size N = omega (arith, c .before .before .node-count .ensures .0) in
+    (c .before .loop .inv .3 ∙ ap (select (rowTest (a .row) N) (λ u. u)) e, omega arith)
 
 pub row-members-spec : {M : Type 1} → statement M
 row-members-spec =
@@ -82,11 +75,12 @@ row-members-spec =
     (tie.spec
     Inv-loop
     μ-loop
+    node-count-requires
     loop-holds
     cast-members
     mul-members
     slice-write-members
-    in-row-by-requires
+    in-row-requires
     one-if-requires
     add-count
     add-v

@@ -1,41 +1,40 @@
--- The slices keep their lengths.
-use mathlib.Core.Path.{_≡_, refl, _∙_}
+-- The work area keeps its length.
+use mathlib.Core.Path.{_≡_, _∙_}
 use Prim.Native.Nat.{_-_}
-use native.Mathlib.Omega.{arith}
 use lib.ListN.{length}
 use borrow.Author.Needs.{needs}
 use Rattle.leads.proofs.worklist.push_order.Statement.{statement}
 use Rattle.leads.proofs.worklist.push_order.Tie as tie
 
 abbrev Inv-loop : tie.InvT-loop
-Inv-loop order n stack₀ waiting₀ depth₀ i₀ stack waiting depth i = (length stack ≡ length stack₀) × (length waiting ≡ length waiting₀)
+Inv-loop file net work₀ n depth₀ i₀ work depth i = length work ≡ length work₀
 
 abbrev μ-loop : tie.MeasureT-loop
-μ-loop order n stack₀ waiting₀ depth₀ i₀ stack waiting depth i = n - i
+μ-loop file net work₀ n depth₀ i₀ work depth i = n - i
+
+node-count-requires : tie.Need-node-count-requires Inv-loop μ-loop
+node-count-requires c κs = search needs
 
 loop-holds : tie.Need-loop-holds Inv-loop μ-loop
-loop-holds c = (refl, refl)
+loop-holds c = search needs
 
-number-at-requires : tie.Need-number-at-requires Inv-loop μ-loop
-number-at-requires c κs = search needs
+order-of-requires : tie.Need-order-of-requires Inv-loop μ-loop
+order-of-requires c κs = search needs
 
 push-requires : tie.Need-push-requires Inv-loop μ-loop
 push-requires c κs = search needs
 
 add-i : tie.Need-add-i Inv-loop μ-loop
-add-i c = omega arith
+add-i c = search needs
 
 loop-less : tie.Need-loop-less Inv-loop μ-loop
-loop-less c = omega arith
+loop-less c = search needs
 
 loop-again : tie.Need-loop-again Inv-loop μ-loop
-loop-again c = (c .before .before .before .before .push .kept .0 ∙ c .before .before .before .before .before .before .before .before .before .loop .inv .0, c .before .before .before .before .push .kept .1 .0 ∙ c .before .before .before .before .before .before .before .before .before .loop .inv .1)
+loop-again c = c .before .before .push .kept .0 ∙ c .before .before .before .before .before .before .loop .inv
 
 same-length : tie.Need-same-length Inv-loop μ-loop
-same-length c = c .before .loop .inv .0
-
-same-length-2 : tie.Need-same-length-2 Inv-loop μ-loop
-same-length-2 c = c .before .loop .inv .1
+same-length c = search needs
 
 returns : tie.Need-returns Inv-loop μ-loop
 returns c = search needs
@@ -46,12 +45,12 @@ push-order-spec =
     (tie.spec
     Inv-loop
     μ-loop
+    node-count-requires
     loop-holds
-    number-at-requires
+    order-of-requires
     push-requires
     add-i
     loop-less
     loop-again
     same-length
-    same-length-2
     returns)

@@ -8,40 +8,37 @@ use Rattle.leads.proofs.worklist.push_sources.Statement.{statement}
 use Rattle.leads.proofs.worklist.push_sources.Tie as tie
 
 abbrev Inv-loop : tie.InvT-loop
-Inv-loop reads at n stack₀ waiting₀ start depth₀ p₀ stack waiting depth p = (length stack ≡ length stack₀) × (length waiting ≡ length waiting₀) × (depth ≤ start + p) × (p ≤ n)
+Inv-loop file net x work₀ start n depth₀ p₀ work depth p = (length work ≡ length work₀) × (p ≤ n) × (depth ≤ start + p)
 
 abbrev μ-loop : tie.MeasureT-loop
-μ-loop reads at n stack₀ waiting₀ start depth₀ p₀ stack waiting depth p = n - p
+μ-loop file net x work₀ start n depth₀ p₀ work depth p = n - p
+
+source-count-requires : tie.Need-source-count-requires Inv-loop μ-loop
+source-count-requires c κs = search needs
 
 loop-holds : tie.Need-loop-holds Inv-loop μ-loop
-loop-holds c = (refl, refl, omega arith, omega arith)
+loop-holds c = (refl, omega arith, omega arith)
 
-add-number-at : tie.Need-add-number-at Inv-loop μ-loop
-add-number-at c = omega (arith, c .before .before .before .before .before .before .before .pre .0, c .before .before .before .before .before .before .before .pre .1, c .before .before .loop-test .taken)
-
-number-at-requires : tie.Need-number-at-requires Inv-loop μ-loop
-number-at-requires c κs = search needs
+source-of-requires : tie.Need-source-of-requires Inv-loop μ-loop
+source-of-requires c κs = search needs
 
 push-requires : tie.Need-push-requires Inv-loop μ-loop
 push-requires c κs = search needs
 
 add-p : tie.Need-add-p Inv-loop μ-loop
-add-p c = omega arith
+add-p c = search needs
 
 loop-less : tie.Need-loop-less Inv-loop μ-loop
-loop-less c = omega arith
+loop-less c = search needs
 
 loop-again : tie.Need-loop-again Inv-loop μ-loop
-loop-again c = (c .before .before .before .before .push .kept .0 ∙ c .before .before .before .before .before .before .before .before .before .loop .inv .0, c .before .before .before .before .push .kept .1 .0 ∙ c .before .before .before .before .before .before .before .before .before .loop .inv .1, omega (arith, c .before .before .before .before .push .ensures), omega arith)
+loop-again c = (c .before .before .push .kept .0 ∙ c .before .before .before .before .before .before .loop .inv .0, omega arith, omega (arith, c .before .before .push .ensures))
 
 same-length : tie.Need-same-length Inv-loop μ-loop
-same-length c = c .before .loop .inv .0
-
-same-length-2 : tie.Need-same-length-2 Inv-loop μ-loop
-same-length-2 c = c .before .loop .inv .1
+same-length c = search needs
 
 returns : tie.Need-returns Inv-loop μ-loop
-returns c = omega arith
+returns c = omega (arith, c .before .loop .inv .1, c .before .loop .inv .2, c .before .before .source-count .ensures .1)
 
 pub push-sources-spec : {M : Type 1} → statement M
 push-sources-spec =
@@ -49,13 +46,12 @@ push-sources-spec =
     (tie.spec
     Inv-loop
     μ-loop
+    source-count-requires
     loop-holds
-    add-number-at
-    number-at-requires
+    source-of-requires
     push-requires
     add-p
     loop-less
     loop-again
     same-length
-    same-length-2
     returns)

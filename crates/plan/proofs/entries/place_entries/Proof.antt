@@ -1,39 +1,44 @@
 -- The loop's invariant: the entries of the first u nodes are placed.
-use mathlib.Core.Path.{_≡_, refl, sym, ap, _∙_}
-use Prim.Native.Nat.{ℕ, _-_, _≤_}
+use mathlib.Core.Path.{_≡_, refl, _∙_}
+use Prim.Native.Nat.{_-_, _≤_}
 use native.Mathlib.Omega.{arith}
 use lib.ListN.{length}
-use borrow.Author.Needs.{needs}
-use Rattle.netlist.specs.File.{netIn}
-use Rattle.netlist.specs.FileLaws.{size-in}
+use Rattle.circuit.specs.Circuit.{netOf}
 use Rattle.plan.specs.Entries.{Placing, Firsts, entriesBefore}
 use Rattle.plan.specs.EntriesLaws.{placing-none, placed-over, placed-all, first-more, firsts-as}
+use borrow.Author.Needs.{needs}
 use Rattle.plan.proofs.entries.place_entries.Statement.{statement}
 use Rattle.plan.proofs.entries.place_entries.Tie as tie
 
 abbrev Inv-loop : tie.InvT-loop
-Inv-loop file tables nodes ends copied heads links firsts₀ owners₀ words₀ codes reads n count₀ u₀ firsts owners words count u = (u ≤ length nodes) × (length firsts ≡ length firsts₀) × (length owners ≡ length owners₀) × (length words ≡ length words₀) × (count ≤ 4096) × Placing owners words (entriesBefore (netIn file tables nodes) u) count × (count ≤ 1024 → Firsts (netIn file tables nodes) firsts u)
+Inv-loop file net ends copied heads links firsts₀ owners₀ words₀ n count₀ u₀ firsts owners words count u =
+    (u ≤ n) × (length firsts ≡ length firsts₀) × (length owners ≡ length owners₀) × (length words ≡ length words₀) × (count ≤ 4096)
+    × Placing owners words (entriesBefore (netOf file net) u) count × (count ≤ 1024 → Firsts (netOf file net) firsts u)
 
 abbrev μ-loop : tie.MeasureT-loop
-μ-loop file tables nodes ends copied heads links firsts₀ owners₀ words₀ codes reads n count₀ u₀ firsts owners words count u = n - u
+μ-loop file net ends copied heads links firsts₀ owners₀ words₀ n count₀ u₀ firsts owners words count u = n - u
+
+node-count-requires : tie.Need-node-count-requires Inv-loop μ-loop
+node-count-requires c κs = search needs
 
 loop-holds : tie.Need-loop-holds Inv-loop μ-loop
-loop-holds c = (omega arith, refl, refl, refl, omega arith, placing-none (netIn (c .before .before .before .before .before .before .before .before .before .before .before .before .args .file .now) (c .before .before .before .before .before .before .before .before .before .before .before .before .args .tables .now) (c .before .before .before .before .before .before .before .before .before .before .before .before .args .nodes .now)) _ _, λ h v l. absurd (omega arith))
+loop-holds c =
+    let a = c .before .before .before .before .before .before .before .before .before .before .args in
+    (omega arith, refl, refl, refl, omega arith, placing-none (netOf (a .file .now) (a .net .now)) _ _, λ h v l. absurd (omega arith))
 
 same-length : tie.Need-same-length Inv-loop μ-loop
-same-length c = search needs
+same-length c = c .before .before .loop .inv .1
 
 same-length-2 : tie.Need-same-length-2 Inv-loop μ-loop
-same-length-2 c = search needs
+same-length-2 c = c .before .before .loop .inv .2
 
 same-length-3 : tie.Need-same-length-3 Inv-loop μ-loop
-same-length-3 c = search needs
+same-length-3 c = c .before .before .loop .inv .3
 
 returns : tie.Need-returns Inv-loop μ-loop
-returns c = let a = c .before .before .before .before .before .before .before .before .before .before .before .before .before .before .before .args in
-    let N = netIn (a .file .now) (a .tables .now) (a .nodes .now) in
-    let z = size-in (a .file .now) (a .tables .now) (a .nodes .now) in
-    placed-over N _ (c .before .before .loop .inv .5) (omega (arith, c .before .before .loop .inv .0)) (c .if1 .taken)
+returns c =
+    let a = c .before .before .before .before .before .before .before .before .before .before .before .before .before .args in
+    placed-over (netOf (a .file .now) (a .net .now)) _ (c .before .before .loop .inv .5) (omega (arith, c .before .before .before .node-count .ensures .0, c .before .before .loop .inv .0)) (c .if1 .taken)
 
 cast-put-number : tie.Need-cast-put-number Inv-loop μ-loop
 cast-put-number c = omega (arith, c .before .if1 .left)
@@ -42,33 +47,40 @@ put-number-requires : tie.Need-put-number-requires Inv-loop μ-loop
 put-number-requires c κs = search needs
 
 place-requires : tie.Need-place-requires Inv-loop μ-loop
-place-requires c κs = (c .before .before .before .before .before .before .before .before .before .before .before .before .before .before .before .before .before .before .before .before .before .pre .0, c .before .before .before .before .before .before .before .loop-test .taken, c .before .before .before .before .before .before .before .before .before .before .before .before .before .before .before .before .before .before .before .before .before .pre .1, omega (arith, c .before .before .before .before .before .before .if1 .left), omega (arith, c .before .before .before .before .before .before .before .before .loop .inv .2, c .before .before .before .before .before .before .before .before .before .before .before .before .before .before .before .before .before .before .before .before .before .pre .3), omega (arith, c .before .before .before .before .before .before .before .before .loop .inv .3, c .before .before .before .before .before .before .before .before .before .before .before .before .before .before .before .before .before .before .before .before .before .pre .4), c .before .before .before .before .before .before .before .before .before .before .before .before .before .before .before .before .before .before .before .before .before .pre .5, c .before .before .before .before .before .before .before .before .before .before .before .before .before .before .before .before .before .before .before .before .before .pre .6, c .before .before .before .before .before .before .before .before .loop .inv .5)
+place-requires c κs =
+    let t = c .before .before .before .before .before .before .before .before .before .before .before .before .before .before .before .before .before .before .before .pre .1 in
+    let i = c .before .before .before .before .before .before .before .before .loop .inv in
+    (c .before .before .before .before .before .before .before .before .before .before .before .before .before .before .before .before .before .before .before .pre .0, (omega (arith, c .before .before .before .before .before .before .before .before .before .node-count .ensures .0, c .before .before .before .before .before .before .before .loop-test .taken), omega (arith, c .before .before .before .before .before .before .if1 .left), omega (arith, i .2, t .1), omega (arith, i .3, t .2), t .3, t .4, i .5))
 
 add-u : tie.Need-add-u Inv-loop μ-loop
-add-u c = omega (arith, c .before .before .before .before .before .before .before .before .before .before .before .before .loop-test .taken, c .before .before .before .before .before .before .before .before .before .before .before .before .before .before .before .before .before .before .before .before .before .before .before .before .before .before .pre .0 .few-nodes)
+add-u c = omega (arith, c .before .before .before .before .before .before .before .before .before .before .before .before .loop-test .taken, c .before .before .before .before .before .before .before .before .before .before .before .before .before .before .node-count .ensures .1)
 
 loop-less : tie.Need-loop-less Inv-loop μ-loop
 loop-less c = omega (arith, c .before .before .before .before .before .before .before .before .before .before .before .before .loop-test .taken)
 
 loop-again : tie.Need-loop-again Inv-loop μ-loop
-loop-again c = let a = c .before .before .before .before .before .before .before .before .before .before .before .before .before .before .before .before .before .before .before .before .before .before .before .before .before .before .args in
-    let N = netIn (a .file .now) (a .tables .now) (a .nodes .now) in
-    (omega (arith, c .before .before .before .before .before .before .before .before .before .before .before .before .loop-test .taken), c .before .before .before .before .before .before .before .before .before .put-number .kept .0 ∙ c .before .before .before .before .before .before .before .before .before .before .before .before .before .loop .inv .1, c .before .before .before .before .place .kept .1 .1 .1 .1 .1 .1 .1 .1 .1 .0 ∙ c .before .before .before .before .before .before .before .before .before .before .before .before .before .loop .inv .2, c .before .before .before .before .place .kept .1 .1 .1 .1 .1 .1 .1 .1 .1 .1 .0 ∙ c .before .before .before .before .before .before .before .before .before .before .before .before .before .loop .inv .3, c .before .before .before .before .place .ensures .1, c .before .before .before .before .place .ensures .0, λ h. firsts-as N (c .before .before .before .before .before .before .before .before .before .put-number .ensures) (first-more N (c .before .before .before .before .before .before .before .before .before .before .before .before .before .loop .firsts) (c .before .before .before .before .before .before .before .before .before .before .before .before .before .loop .inv .5) (omega (arith, c .before .before .before .before .before .before .before .before .before .before .before .if1 .left)) (omega (arith, c .before .before .before .before .before .before .before .before .before .before .before .before .before .loop .inv .1, c .before .before .before .before .before .before .before .before .before .before .before .before .before .before .before .before .before .before .before .before .before .before .before .before .before .before .pre .2, c .before .before .before .before .before .before .before .before .before .before .before .before .loop-test .taken, c .before .before .before .before .before .before .before .before .before .before .before .before .before .before .before .before .before .before .before .before .before .before .before .before .before .before .pre .0 .few-nodes)) (c .before .before .before .before .before .before .before .before .before .before .before .before .before .loop .inv .6 (omega (arith, c .before .before .before .before .before .before .before .before .before .before .before .if1 .left)))))
+loop-again c =
+    let a = c .before .before .before .before .before .before .before .before .before .before .before .before .before .before .before .before .before .before .before .before .before .before .before .before .args in
+    let N = netOf (a .file .now) (a .net .now) in
+    let t = c .before .before .before .before .before .before .before .before .before .before .before .before .before .before .before .before .before .before .before .before .before .before .before .before .pre .1 in
+    let i = c .before .before .before .before .before .before .before .before .before .before .before .before .before .loop .inv in
+    let r = c .before .before .before .before .place in
+    let k = r .kept .1 .1 .1 .1 .1 .1 .1 .1 in
+    (omega (arith, c .before .before .before .before .before .before .before .before .before .before .before .before .loop-test .taken), c .before .before .before .before .before .before .before .before .before .put-number .kept .0 ∙ i .1, k .0 ∙ i .2, k .1 .0 ∙ i .3, r .ensures .1, r .ensures .0, λ h. firsts-as N (c .before .before .before .before .before .before .before .before .before .put-number .ensures) (first-more N (c .before .before .before .before .before .before .before .before .before .before .before .before .before .loop .firsts) (i .5) (omega (arith, c .before .before .before .before .before .before .before .before .before .before .before .if1 .left)) (omega (arith, i .1, t .0, c .before .before .before .before .before .before .before .before .before .before .before .before .loop-test .taken, c .before .before .before .before .before .before .before .before .before .before .before .before .before .before .node-count .ensures .1)) (i .6 (omega (arith, c .before .before .before .before .before .before .before .before .before .before .before .if1 .left)))))
 
 same-length-4 : tie.Need-same-length-4 Inv-loop μ-loop
-same-length-4 c = search needs
+same-length-4 c = c .before .loop .inv .1
 
 same-length-5 : tie.Need-same-length-5 Inv-loop μ-loop
-same-length-5 c = search needs
+same-length-5 c = c .before .loop .inv .2
 
 same-length-6 : tie.Need-same-length-6 Inv-loop μ-loop
-same-length-6 c = search needs
+same-length-6 c = c .before .loop .inv .3
 
 returns-2 : tie.Need-returns-2 Inv-loop μ-loop
-returns-2 c = let a = c .before .before .before .before .before .before .before .before .before .before .before .before .before .before .args in
-    let N = netIn (a .file .now) (a .tables .now) (a .nodes .now) in
-    let z = size-in (a .file .now) (a .tables .now) (a .nodes .now) in
-    placed-all N _ (c .before .loop .inv .5) (omega (arith, c .before .loop .inv .0, c .loop-test .left)) (c .before .loop .inv .6)
+returns-2 c =
+    let a = c .before .before .before .before .before .before .before .before .before .before .before .before .args in
+    placed-all (netOf (a .file .now) (a .net .now)) _ (c .before .loop .inv .5) (omega (arith, c .before .before .node-count .ensures .0, c .before .loop .inv .0, c .loop-test .left)) (c .before .loop .inv .6)
 
 pub place-entries-spec : {M : Type 1} → statement M
 place-entries-spec =
@@ -76,6 +88,7 @@ place-entries-spec =
     (tie.spec
     Inv-loop
     μ-loop
+    node-count-requires
     loop-holds
     same-length
     same-length-2

@@ -1,7 +1,6 @@
 -- A gate's operation stands before its sources.
-use mathlib.Core.Path.{_≡_}
 use native.Mathlib.Omega.{arith}
-use Rattle.nodes.specs.Code.{code-first, code-gate}
+use Rattle.reader.specs.Parts.{code-first, code-gate}
 use Rattle.reader.proofs.parts.first_by_code.Statement.{statement}
 use Rattle.reader.proofs.parts.first_by_code.Tie as tie
 

@@ -1,10 +1,8 @@
 -- The sources stand where the code says.
-use mathlib.Core.Path.{ap, _∙_}
-use Prim.Native.Nat.{ℕ}
+use mathlib.Core.Path.{_∙_}
 use native.Mathlib.Omega.{arith}
-use lib.ListN.{getD}
 use Rattle.netlist.specs.File.{nodeIn}
-use Rattle.nodes.specs.Code.{sourcesByCode, code-few, code-sources}
+use Rattle.circuit.specs.Code.{few-operands}
 use Rattle.reader.proofs.InFile as file
 use borrow.Author.Needs.{needs}
 use Rattle.reader.proofs.parts.sources_at.Statement.{statement}
@@ -19,32 +17,21 @@ first-by-code-requires c κs = search needs
 add-from-2 : tie.Need-add-from-2
 add-from-2 c = search needs
 
-code-sources-requires : tie.Need-code-sources-requires
-code-sources-requires c κs = omega (arith, c .before .before .pre .1, code-few (nodeIn (c .before .before .args .file .now) (c .before .before .args .at) .element))
-
 sources-from-requires : tie.Need-sources-from-requires
 sources-from-requires c κs =
-    let s = c .before .before .before .args .file .now in
-    let at = c .before .before .before .args .at in
-    let p = c .before .before .before .pre .0 in
-    let e = nodeIn s at .element in
-    omega (arith, p .inside, file.sources-fit s at p _ _ (c .before .first-by-code .ensures .0 e (c .before .before .before .pre .1)) (c .code-sources .ensures .0 ∙ ap (λ (k : ℕ). getD sourcesByCode k 0) (c .before .before .before .pre .1) ∙ code-sources e))
+    let s = c .before .before .args .file .now in
+    let at = c .before .before .args .at in
+    let p = c .before .before .pre in
+    let fit = file.sources-fit s at (p .0) _ _ (c .first-by-code .ensures .0 (nodeIn s at .element) (p .1)) (p .2) in
+    (omega (arith, p .0 .inside, fit), omega (arith, p .2, few-operands (nodeIn s at .element)))
 
 returns : tie.Need-returns
 returns c =
-    let s = c .before .before .before .before .args .file .now in
-    let at = c .before .before .before .before .args .at in
-    let p = c .before .before .before .before .pre .0 in
-    let e = nodeIn s at .element in
-    c .sources-from .ensures ∙ file.sources-here s at p _ _ (c .before .before .first-by-code .ensures .0 e (c .before .before .before .before .pre .1)) (c .before .code-sources .ensures .0 ∙ ap (λ (k : ℕ). getD sourcesByCode k 0) (c .before .before .before .before .pre .1) ∙ code-sources e)
+    let s = c .before .before .before .args .file .now in
+    let at = c .before .before .before .args .at in
+    let p = c .before .before .before .pre in
+    c .sources-from .ensures ∙ file.sources-here s at (p .0) _ _ (c .before .first-by-code .ensures .0 (nodeIn s at .element) (p .1)) (p .2)
 
 pub sources-at-spec : {M : Type 1} → statement M
 sources-at-spec =
-    tie.close
-    (tie.spec
-    add-from
-    first-by-code-requires
-    add-from-2
-    code-sources-requires
-    sources-from-requires
-    returns)
+    tie.close (tie.spec add-from first-by-code-requires add-from-2 sources-from-requires returns)

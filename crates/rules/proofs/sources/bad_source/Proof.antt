@@ -1,9 +1,8 @@
 -- By the two laws of check 6 over plain values.
 use mathlib.Core.Path.{sym, _∙_}
-use native.Mathlib.Omega.{arith}
-use borrow.Author.Needs.{needs}
-use Rattle.netlist.specs.File.{netIn}
+use Rattle.circuit.specs.Circuit.{netOf}
 use Rattle.rules.proofs.SourceLaws.{missing, there}
+use borrow.Author.Needs.{needs}
 use Rattle.rules.proofs.sources.bad_source.Statement.{statement}
 use Rattle.rules.proofs.sources.bad_source.Tie as tie
 
@@ -11,25 +10,16 @@ table-missing-requires : tie.Need-table-missing-requires
 table-missing-requires c κs = search needs
 
 returns : tie.Need-returns
-returns c =
-    let a = c .before .before .before .before .before .before .before .args in
-    let N = netIn (a .file .now) (a .tables .now) (a .nodes .now) in
-    missing N (a .v) (sym (c .before .table-missing .ensures) ∙ c .if1 .taken)
+returns c = missing (netOf (c .before .before .before .before .args .file .now) (c .before .before .before .before .args .net .now)) (c .before .before .before .before .args .v) (sym (c .before .table-missing .ensures) ∙ c .if1 .taken)
 
-count-at-requires : tie.Need-count-at-requires
-count-at-requires c κs = (c .before .before .before .before .before .before .before .pre .2, c .before .before .before .before .before .before .before .pre .1, omega (arith, c .before .before .before .before .before .before .before .pre .1, c .before .before .before .before .before .before .before .pre .0 .few-nodes))
-
-mul-any-no-source : tie.Need-mul-any-no-source
-mul-any-no-source c = omega (arith, c .before .before .before .before .before .before .before .before .pre .1, c .before .before .before .before .before .before .before .before .pre .0 .few-nodes)
+source-count-requires : tie.Need-source-count-requires
+source-count-requires c κs = search needs
 
 any-no-source-requires : tie.Need-any-no-source-requires
-any-no-source-requires c κs = (c .before .before .before .before .before .before .before .before .pre .0, c .count-at .ensures .1, omega (arith, c .before .before .before .before .before .before .before .before .pre .1, c .before .before .before .before .before .before .before .before .pre .0 .few-nodes, c .before .before .before .before .before .before .before .before .pre .2 .source-room), c .before .before .before .before .before .before .before .before .pre .2)
+any-no-source-requires c κs = search needs
 
 returns-2 : tie.Need-returns-2
-returns-2 c =
-    let a = c .before .before .before .before .before .before .before .before .before .args in
-    let N = netIn (a .file .now) (a .tables .now) (a .nodes .now) in
-    there N (a .v) (c .before .before .before .before .before .before .before .before .before .pre .2) (c .before .before .before .before .before .before .before .before .before .pre .1) (sym (c .before .before .before .table-missing .ensures) ∙ c .before .before .if1 .left) (c .before .count-at .result) (c .before .count-at .ensures .0) (c .before .count-at .ensures .1) _ (c .any-no-source .ensures)
+returns-2 c = there (netOf (c .before .before .before .before .before .before .args .file .now) (c .before .before .before .before .before .before .args .net .now)) (c .before .before .before .before .before .before .args .v) (sym (c .before .before .before .table-missing .ensures) ∙ c .before .before .if1 .left) (c .before .source-count .result) (c .before .source-count .ensures .0) _ (c .any-no-source .ensures)
 
 pub bad-source-spec : {M : Type 1} → statement M
 bad-source-spec =
@@ -37,7 +27,6 @@ bad-source-spec =
     (tie.spec
     table-missing-requires
     returns
-    count-at-requires
-    mul-any-no-source
+    source-count-requires
     any-no-source-requires
     returns-2)

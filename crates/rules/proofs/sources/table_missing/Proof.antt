@@ -1,59 +1,42 @@
 -- Only a ROM has a table.
 use native.Mathlib.Omega.{arith}
-use borrow.Author.Needs.{needs}
 use Rattle.netlist.specs.Net.{elementAt}
-use Rattle.netlist.specs.File.{netIn}
-use Rattle.netlist.specs.FileLaws.{tables-in}
-use Rattle.columns.specs.Kinds.{rom-code}
-use Rattle.rules.proofs.SourceLaws.{no-rom, table-here, table-nowhere}
+use Rattle.circuit.specs.Circuit.{netOf}
+use Rattle.rules.proofs.SourceLaws.{no-rom, rom-code, rom-table, table-here, table-nowhere}
+use mathlib.Core.Path.{sym}
+use borrow.Author.Needs.{needs}
 use Rattle.rules.proofs.sources.table_missing.Statement.{statement}
 use Rattle.rules.proofs.sources.table_missing.Tie as tie
 
-shared-slice-read-code : tie.Need-shared-slice-read-code
-shared-slice-read-code c = omega (arith, c .before .before .before .before .before .before .pre .0 .few-nodes, c .before .before .before .before .before .before .pre .1, c .before .before .before .before .before .before .pre .2 .code-room)
+code-of-requires : tie.Need-code-of-requires
+code-of-requires c κs = search needs
 
 returns : tie.Need-returns
-returns c =
-    let a = c .before .before .before .before .before .before .before .args in
-    let N = netIn (a .file .now) (a .tables .now) (a .nodes .now) in
-    let q = c .before .before .before .before .before .before .before .pre .2 .code (a .v) (c .before .before .before .before .before .before .before .pre .1) in
-    no-rom (N .tables) (elementAt N (a .v)) (λ d. omega (arith, c .if1 .taken, q)) (λ d. omega (arith, c .if1 .taken, q))
+returns c = let N = netOf (c .before .before .before .before .args .file .now) (c .before .before .before .before .args .net .now) in let q = c .before .code-of .ensures .0 in no-rom (N .tables) (elementAt N (c .before .before .before .before .args .v)) (λ d. omega (arith, c .if1 .taken, q)) (λ d. omega (arith, c .if1 .taken, q))
 
 returns-2 : tie.Need-returns-2
-returns-2 c =
-    let a = c .before .before .before .before .before .before .before .before .args in
-    let N = netIn (a .file .now) (a .tables .now) (a .nodes .now) in
-    let q = c .before .before .before .before .before .before .before .before .pre .2 .code (a .v) (c .before .before .before .before .before .before .before .before .pre .1) in
-    no-rom (N .tables) (elementAt N (a .v)) (λ d. omega (arith, c .if2 .taken, q)) (λ d. omega (arith, c .if2 .taken, q))
+returns-2 c = let N = netOf (c .before .before .before .before .before .args .file .now) (c .before .before .before .before .before .args .net .now) in let q = c .before .before .code-of .ensures .0 in no-rom (N .tables) (elementAt N (c .before .before .before .before .before .args .v)) (λ d. omega (arith, c .if2 .taken, q)) (λ d. omega (arith, c .if2 .taken, q))
 
 table-of-requires : tie.Need-table-of-requires
-table-of-requires c κs =
-    let a = c .before .before .before .before .before .before .before .before .args in
-    let N = netIn (a .file .now) (a .tables .now) (a .nodes .now) in
-    let q = c .before .before .before .before .before .before .before .before .pre .2 .code (a .v) (c .before .before .before .before .before .before .before .before .pre .1) in
-    (c .before .before .before .before .before .before .before .before .pre .0, c .before .before .before .before .before .before .before .before .pre .1, rom-code (elementAt N (a .v)) (omega (arith, c .before .if1 .left, q)) (omega (arith, c .if2 .left, q)))
+table-of-requires c κs = search needs
+
+table-count-requires : tie.Need-table-count-requires
+table-count-requires c κs = search needs
 
 returns-3 : tie.Need-returns-3
-returns-3 c =
-    let a = c .before .before .before .before .before .before .before .before .before .before .args in
-    let N = netIn (a .file .now) (a .tables .now) (a .nodes .now) in
-    let q = c .before .before .before .before .before .before .before .before .before .before .pre .2 .code (a .v) (c .before .before .before .before .before .before .before .before .before .before .pre .1) in
-    table-here (N .tables) (elementAt N (a .v)) (rom-code (elementAt N (a .v)) (omega (arith, c .before .before .before .if1 .left, q)) (omega (arith, c .before .before .if2 .left, q))) (tables-in (a .file .now) (a .tables .now) (a .nodes .now)) (c .before .table-of .ensures) (c .if3 .taken)
+returns-3 c = let N = netOf (c .before .before .before .before .before .before .before .before .args .file .now) (c .before .before .before .before .before .before .before .before .args .net .now) in let e = elementAt N (c .before .before .before .before .before .before .before .before .args .v) in let m = rom-code e (omega (arith, c .before .before .before .before .if1 .left, c .before .before .before .before .before .code-of .ensures .0)) (omega (arith, c .before .before .before .if2 .left, c .before .before .before .before .before .code-of .ensures .0)) in table-here (N .tables) e m (sym (c .before .table-count .ensures .1)) (rom-table e m (c .before .before .table-of .ensures .0)) (c .if3 .taken)
 
 returns-4 : tie.Need-returns-4
-returns-4 c =
-    let a = c .before .before .before .before .before .before .before .before .before .before .args in
-    let N = netIn (a .file .now) (a .tables .now) (a .nodes .now) in
-    let q = c .before .before .before .before .before .before .before .before .before .before .pre .2 .code (a .v) (c .before .before .before .before .before .before .before .before .before .before .pre .1) in
-    table-nowhere (N .tables) (elementAt N (a .v)) (rom-code (elementAt N (a .v)) (omega (arith, c .before .before .before .if1 .left, q)) (omega (arith, c .before .before .if2 .left, q))) (tables-in (a .file .now) (a .tables .now) (a .nodes .now)) (c .before .table-of .ensures) (omega (arith, c .if3 .left))
+returns-4 c = let N = netOf (c .before .before .before .before .before .before .before .before .args .file .now) (c .before .before .before .before .before .before .before .before .args .net .now) in let e = elementAt N (c .before .before .before .before .before .before .before .before .args .v) in let m = rom-code e (omega (arith, c .before .before .before .before .if1 .left, c .before .before .before .before .before .code-of .ensures .0)) (omega (arith, c .before .before .before .if2 .left, c .before .before .before .before .before .code-of .ensures .0)) in table-nowhere (N .tables) e m (sym (c .before .table-count .ensures .1)) (rom-table e m (c .before .before .table-of .ensures .0)) (λ l. omega (arith, c .if3 .left))
 
 pub table-missing-spec : {M : Type 1} → statement M
 table-missing-spec =
     tie.close
     (tie.spec
-    shared-slice-read-code
+    code-of-requires
     returns
     returns-2
     table-of-requires
+    table-count-requires
     returns-3
     returns-4)

@@ -1,52 +1,19 @@
--- The lowest bit stands in the field.
-use mathlib.Core.Path.{refl}
-use Prim.Native.Nat.{_+_}
-use native.Mathlib.Omega.{arith}
+-- Its number is its lowest bit.
+use Rattle.netlist.specs.Net.{elementAt}
+use Rattle.circuit.specs.Circuit.{netOf}
+use Rattle.rules.proofs.WidthLaws.{part-is, part-rule}
 use borrow.Author.Needs.{needs}
-use Rattle.netlist.specs.File.{netIn}
-use Rattle.columns.specs.Fields.{part-long, part-at}
-use Rattle.rules.proofs.WidthLaws.{part-rule}
 use Rattle.rules.proofs.widths.part_widths.Statement.{statement}
 use Rattle.rules.proofs.widths.part_widths.Tie as tie
 
-mul-wide : tie.Need-mul-wide
-mul-wide c = search needs
-
-shared-slice-read-wide : tie.Need-shared-slice-read-wide
-shared-slice-read-wide c = search needs
-
-wide-requires : tie.Need-wide-requires
-wide-requires c κs = search needs
-
-add-low : tie.Need-add-low
-add-low c = search needs
-
-shared-slice-read-low : tie.Need-shared-slice-read-low
-shared-slice-read-low c =
-    let a = c .before .before .before .before .before .before .args in
-    omega (arith, part-long (a .file .now) (a .tables .now) (a .nodes .now) (c .before .before .before .before .before .before .pre .0) (c .before .before .before .before .before .before .pre .1) (c .before .wide .ensures .0) (c .before .before .before .before .before .before .pre .2) refl)
-
-cast-result : tie.Need-cast-result
-cast-result c = omega (arith, c .before .before .before .before .before .shared-slice-known .given (c .before .wide .result + 8))
+number-of-requires : tie.Need-number-of-requires
+number-of-requires c κs = search needs
 
 add-result : tie.Need-add-result
-add-result c = omega (arith, c .before .before .before .before .before .shared-slice-known .given (c .before .wide .result + 8))
+add-result c = search needs
 
 returns : tie.Need-returns
-returns c =
-    let a = c .before .before .before .before .before .before .args in
-    let N = netIn (a .file .now) (a .tables .now) (a .nodes .now) in
-    λ ws e. part-rule (N .tables) (part-at (a .file .now) (a .tables .now) (a .nodes .now) (c .before .before .before .before .before .before .pre .0) (c .before .before .before .before .before .before .pre .1) (c .before .wide .ensures .0) (c .before .before .before .before .before .before .pre .2) refl) (a .w) (a .a) ws e
+returns c = let a = c .before .before .before .args in let N = netOf (c .before .before .before .args .file .now) (c .before .before .before .args .net .now) in λ ws f. part-rule (N .tables) (part-is (elementAt N (a .v)) (c .before .before .before .pre .1 .1) (c .number-of .ensures .0)) (a .w) (a .a) ws f
 
 pub part-widths-spec : {M : Type 1} → statement M
-part-widths-spec =
-    tie.close
-    (tie.spec
-    mul-wide
-    shared-slice-read-wide
-    wide-requires
-    add-low
-    shared-slice-read-low
-    cast-result
-    add-result
-    returns)
+part-widths-spec = tie.close (tie.spec number-of-requires add-result returns)

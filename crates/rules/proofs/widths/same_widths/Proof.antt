@@ -30,28 +30,28 @@ pick-requires-6 c κs = search needs
 
 returns : tie.Need-returns
 returns c = let a = c .before .before .before .before .before .before .before .before .args in
-    let f : c .before .before .before .before .before .before .before .pick .result ≡ pick firstCounts (a .code) (a .a) (a .w) = c .before .before .before .before .before .before .before .pick .ensures ∙ ap (λ (k : ℕ). cond (eqb k 1) (a .a) (a .w)) (bit-of 32710 firstCounts first-bits (a .code) (c .before .before .before .before .before .before .before .before .pre)) in
-    let m : c .before .before .before .before .before .before .pick2 .result ≡ pick comparing (a .code) (a .b) (a .w) = c .before .before .before .before .before .before .pick2 .ensures ∙ ap (λ (k : ℕ). cond (eqb k 1) (a .b) (a .w)) (bit-of 12288 comparing comparing-bits (a .code) (c .before .before .before .before .before .before .before .before .pre)) in
-    let d : c .before .before .before .before .before .pick3 .result ≡ pick choosing (a .code) 1 (pick comparing (a .code) (a .b) (a .w)) = c .before .before .before .before .before .pick3 .ensures ∙ ap (λ (k : ℕ). cond (eqb k 1) 1 (c .before .before .before .before .before .before .pick2 .result)) (bit-of 16384 choosing choosing-bits (a .code) (c .before .before .before .before .before .before .before .before .pre)) ∙ ap (pick choosing (a .code) 1) m in
-    let s : c .before .before .before .before .pick4 .result ≡ pick secondCounts (a .code) (a .b) (a .w) = c .before .before .before .before .pick4 .ensures ∙ ap (λ (k : ℕ). cond (eqb k 1) (a .b) (a .w)) (bit-of 20352 secondCounts second-bits (a .code) (c .before .before .before .before .before .before .before .before .pre)) in
-    let o : c .before .before .before .pick5 .result ≡ pick comparing (a .code) 1 (a .w) = c .before .before .before .pick5 .ensures ∙ ap (λ (k : ℕ). cond (eqb k 1) 1 (a .w)) (bit-of 12288 comparing comparing-bits (a .code) (c .before .before .before .before .before .before .before .before .pre)) in
-    let t : c .before .before .pick6 .result ≡ pick choosing (a .code) (a .c) (a .w) = c .before .before .pick6 .ensures ∙ ap (λ (k : ℕ). cond (eqb k 1) (a .c) (a .w)) (bit-of 16384 choosing choosing-bits (a .code) (c .before .before .before .before .before .before .before .before .pre)) in
+    let f : c .before .before .before .before .before .before .before .pick .result ≡ pick firstCounts (a .code) (a .a) (a .w) = c .before .before .before .before .before .before .before .pick .ensures ∙ ap (λ (k : ℕ). cond (eqb k 1) (a .a) (a .w)) (bit-of 261638 firstCounts first-bits (a .code) (c .before .before .before .before .before .before .before .before .pre)) in
+    let m : c .before .before .before .before .before .before .pick2 .result ≡ pick comparing (a .code) (a .b) (a .w) = c .before .before .before .before .before .before .pick2 .ensures ∙ ap (λ (k : ℕ). cond (eqb k 1) (a .b) (a .w)) (bit-of 98304 comparing comparing-bits (a .code) (c .before .before .before .before .before .before .before .before .pre)) in
+    let d : c .before .before .before .before .before .pick3 .result ≡ pick choosing (a .code) 1 (pick comparing (a .code) (a .b) (a .w)) = c .before .before .before .before .before .pick3 .ensures ∙ ap (λ (k : ℕ). cond (eqb k 1) 1 (c .before .before .before .before .before .before .pick2 .result)) (bit-of 131072 choosing choosing-bits (a .code) (c .before .before .before .before .before .before .before .before .pre)) ∙ ap (pick choosing (a .code) 1) m in
+    let s : c .before .before .before .before .pick4 .result ≡ pick secondCounts (a .code) (a .b) (a .w) = c .before .before .before .before .pick4 .ensures ∙ ap (λ (k : ℕ). cond (eqb k 1) (a .b) (a .w)) (bit-of 162816 secondCounts second-bits (a .code) (c .before .before .before .before .before .before .before .before .pre)) in
+    let o : c .before .before .before .pick5 .result ≡ pick comparing (a .code) 1 (a .w) = c .before .before .before .pick5 .ensures ∙ ap (λ (k : ℕ). cond (eqb k 1) 1 (a .w)) (bit-of 98304 comparing comparing-bits (a .code) (c .before .before .before .before .before .before .before .before .pre)) in
+    let t : c .before .before .pick6 .result ≡ pick choosing (a .code) (a .c) (a .w) = c .before .before .pick6 .ensures ∙ ap (λ (k : ℕ). cond (eqb k 1) (a .c) (a .w)) (bit-of 131072 choosing choosing-bits (a .code) (c .before .before .before .before .before .before .before .before .pre)) in
     and-on _ _ (eq-eqb _ _ (sym f ∙ c .before .if1 .taken ∙ d)) (and-on _ _ (eq-eqb _ _ (sym s ∙ c .if2 .taken ∙ o)) (ap (λ (k : ℕ). eqb k (a .w)) t))
 
 returns-2 : tie.Need-returns-2
 returns-2 c = let a = c .before .before .before .before .before .before .before .before .args in
-    let f : c .before .before .before .before .before .before .before .pick .result ≡ pick firstCounts (a .code) (a .a) (a .w) = c .before .before .before .before .before .before .before .pick .ensures ∙ ap (λ (k : ℕ). cond (eqb k 1) (a .a) (a .w)) (bit-of 32710 firstCounts first-bits (a .code) (c .before .before .before .before .before .before .before .before .pre)) in
-    let m : c .before .before .before .before .before .before .pick2 .result ≡ pick comparing (a .code) (a .b) (a .w) = c .before .before .before .before .before .before .pick2 .ensures ∙ ap (λ (k : ℕ). cond (eqb k 1) (a .b) (a .w)) (bit-of 12288 comparing comparing-bits (a .code) (c .before .before .before .before .before .before .before .before .pre)) in
-    let d : c .before .before .before .before .before .pick3 .result ≡ pick choosing (a .code) 1 (pick comparing (a .code) (a .b) (a .w)) = c .before .before .before .before .before .pick3 .ensures ∙ ap (λ (k : ℕ). cond (eqb k 1) 1 (c .before .before .before .before .before .before .pick2 .result)) (bit-of 16384 choosing choosing-bits (a .code) (c .before .before .before .before .before .before .before .before .pre)) ∙ ap (pick choosing (a .code) 1) m in
-    let s : c .before .before .before .before .pick4 .result ≡ pick secondCounts (a .code) (a .b) (a .w) = c .before .before .before .before .pick4 .ensures ∙ ap (λ (k : ℕ). cond (eqb k 1) (a .b) (a .w)) (bit-of 20352 secondCounts second-bits (a .code) (c .before .before .before .before .before .before .before .before .pre)) in
-    let o : c .before .before .before .pick5 .result ≡ pick comparing (a .code) 1 (a .w) = c .before .before .before .pick5 .ensures ∙ ap (λ (k : ℕ). cond (eqb k 1) 1 (a .w)) (bit-of 12288 comparing comparing-bits (a .code) (c .before .before .before .before .before .before .before .before .pre)) in
+    let f : c .before .before .before .before .before .before .before .pick .result ≡ pick firstCounts (a .code) (a .a) (a .w) = c .before .before .before .before .before .before .before .pick .ensures ∙ ap (λ (k : ℕ). cond (eqb k 1) (a .a) (a .w)) (bit-of 261638 firstCounts first-bits (a .code) (c .before .before .before .before .before .before .before .before .pre)) in
+    let m : c .before .before .before .before .before .before .pick2 .result ≡ pick comparing (a .code) (a .b) (a .w) = c .before .before .before .before .before .before .pick2 .ensures ∙ ap (λ (k : ℕ). cond (eqb k 1) (a .b) (a .w)) (bit-of 98304 comparing comparing-bits (a .code) (c .before .before .before .before .before .before .before .before .pre)) in
+    let d : c .before .before .before .before .before .pick3 .result ≡ pick choosing (a .code) 1 (pick comparing (a .code) (a .b) (a .w)) = c .before .before .before .before .before .pick3 .ensures ∙ ap (λ (k : ℕ). cond (eqb k 1) 1 (c .before .before .before .before .before .before .pick2 .result)) (bit-of 131072 choosing choosing-bits (a .code) (c .before .before .before .before .before .before .before .before .pre)) ∙ ap (pick choosing (a .code) 1) m in
+    let s : c .before .before .before .before .pick4 .result ≡ pick secondCounts (a .code) (a .b) (a .w) = c .before .before .before .before .pick4 .ensures ∙ ap (λ (k : ℕ). cond (eqb k 1) (a .b) (a .w)) (bit-of 162816 secondCounts second-bits (a .code) (c .before .before .before .before .before .before .before .before .pre)) in
+    let o : c .before .before .before .pick5 .result ≡ pick comparing (a .code) 1 (a .w) = c .before .before .before .pick5 .ensures ∙ ap (λ (k : ℕ). cond (eqb k 1) 1 (a .w)) (bit-of 98304 comparing comparing-bits (a .code) (c .before .before .before .before .before .before .before .before .pre)) in
     and-on _ _ (eq-eqb _ _ (sym f ∙ c .before .if1 .taken ∙ d)) (and-off _ _ (ne-eqb _ _ (λ q. c .if2 .left (s ∙ q ∙ sym o))))
 
 returns-3 : tie.Need-returns-3
 returns-3 c = let a = c .before .before .before .before .before .before .before .args in
-    let f : c .before .before .before .before .before .before .pick .result ≡ pick firstCounts (a .code) (a .a) (a .w) = c .before .before .before .before .before .before .pick .ensures ∙ ap (λ (k : ℕ). cond (eqb k 1) (a .a) (a .w)) (bit-of 32710 firstCounts first-bits (a .code) (c .before .before .before .before .before .before .before .pre)) in
-    let m : c .before .before .before .before .before .pick2 .result ≡ pick comparing (a .code) (a .b) (a .w) = c .before .before .before .before .before .pick2 .ensures ∙ ap (λ (k : ℕ). cond (eqb k 1) (a .b) (a .w)) (bit-of 12288 comparing comparing-bits (a .code) (c .before .before .before .before .before .before .before .pre)) in
-    let d : c .before .before .before .before .pick3 .result ≡ pick choosing (a .code) 1 (pick comparing (a .code) (a .b) (a .w)) = c .before .before .before .before .pick3 .ensures ∙ ap (λ (k : ℕ). cond (eqb k 1) 1 (c .before .before .before .before .before .pick2 .result)) (bit-of 16384 choosing choosing-bits (a .code) (c .before .before .before .before .before .before .before .pre)) ∙ ap (pick choosing (a .code) 1) m in
+    let f : c .before .before .before .before .before .before .pick .result ≡ pick firstCounts (a .code) (a .a) (a .w) = c .before .before .before .before .before .before .pick .ensures ∙ ap (λ (k : ℕ). cond (eqb k 1) (a .a) (a .w)) (bit-of 261638 firstCounts first-bits (a .code) (c .before .before .before .before .before .before .before .pre)) in
+    let m : c .before .before .before .before .before .pick2 .result ≡ pick comparing (a .code) (a .b) (a .w) = c .before .before .before .before .before .pick2 .ensures ∙ ap (λ (k : ℕ). cond (eqb k 1) (a .b) (a .w)) (bit-of 98304 comparing comparing-bits (a .code) (c .before .before .before .before .before .before .before .pre)) in
+    let d : c .before .before .before .before .pick3 .result ≡ pick choosing (a .code) 1 (pick comparing (a .code) (a .b) (a .w)) = c .before .before .before .before .pick3 .ensures ∙ ap (λ (k : ℕ). cond (eqb k 1) 1 (c .before .before .before .before .before .pick2 .result)) (bit-of 131072 choosing choosing-bits (a .code) (c .before .before .before .before .before .before .before .pre)) ∙ ap (pick choosing (a .code) 1) m in
     and-off _ _ (ne-eqb _ _ (λ q. c .if1 .left (f ∙ q ∙ sym d)))
 
 pub same-widths-spec : {M : Type 1} → statement M

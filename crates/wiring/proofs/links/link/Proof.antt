@@ -1,10 +1,9 @@
 -- Linked, or past a wire without a clock.
-use mathlib.Core.Path.{_≡_, refl, sym, ap, subst, _∙_}
-use Prim.Native.Nat.{ℕ, _+_, _≤_, _<_}
+use mathlib.Core.Path.{_≡_, ap, _∙_}
+use Prim.Native.Nat.{ℕ}
 use native.Mathlib.Omega.{arith}
-use lib.ListN.{length, getD}
+use lib.ListN.{getD}
 use borrow.Author.Needs.{needs}
-use mathlib.Core.List.{List}
 use lib.ListN.{set}
 use Rattle.wiring.specs.Links.{linked-past, linked-more}
 use Rattle.wiring.proofs.links.link.Statement.{statement}

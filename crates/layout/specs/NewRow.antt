@@ -1,0 +1,125 @@
+-- The element of an old node, made new in its row: a ROM's code becomes that of a clocked one, and its number the reset word. Assumes nothing.
+use mathlib.Core.Path.{_≡_, refl, sym, ap, subst, _∙_}
+use mathlib.Core.Bool.{Bool, cond}
+use mathlib.Core.List.{List}
+use Prim.Native.Nat.{ℕ, _+_, _<_}
+use native.Mathlib.Omega.{arith}
+use Rattle.lists.specs.Lists.{one}
+use Rattle.netlist.specs.declared.Element.{Element}
+use Rattle.netlist.specs.declared.Element.the-variants.{Input, Output, Register, Async, Clocked, Gate}
+use Rattle.netlist.specs.declared.Node.{Node}
+use lib.Dec.{eqb}
+use Rattle.netlist.specs.Net.{Net, size, elementAt, widthAt, operands, tableOf, isAsync, isClocked, isMemory}
+use Rattle.circuit.specs.declared.Row.{Row}
+use Rattle.circuit.specs.Code.{Coded, codeOf, coded, elementBy, numberOr, tableOr, element-named}
+use Rattle.circuit.specs.Circuit.{rowNode, netOf, Fits, Circuit}
+use Rattle.opening.specs.Rows.{part-small}
+use Rattle.retiming.specs.Rewrite.{newElement}
+
+module _ (m c : ℕ) where
+  pub new-code : (e : Element) → codeOf (newElement e m c) ≡ codeOf e + one (isAsync e)
+  new-code Input = refl
+  new-code Output = refl
+  new-code (Register r) = refl
+  new-code (Async k) = refl
+  new-code (Clocked k r) = refl
+  new-code (Gate o) = omega arith
+
+  pub new-operands : (e : Element) → operands (newElement e m c) ≡ operands e
+  new-operands Input = refl
+  new-operands Output = refl
+  new-operands (Register r) = refl
+  new-operands (Async k) = refl
+  new-operands (Clocked k r) = refl
+  new-operands (Gate o) = refl
+
+  pub new-number : (e : Element) {k : ℕ} → k ≡ numberOr k e → cond (isMemory e) c k ≡ numberOr (cond (isMemory e) c k) (newElement e m c)
+  new-number Input h = refl
+  new-number Output h = refl
+  new-number (Register r) h = h
+  new-number (Async k) h = refl
+  new-number (Clocked k r) h = refl
+  new-number (Gate o) h = h
+
+pub new-table : (e : Element) (c : ℕ) {t : ℕ} → t ≡ tableOr t e → t ≡ tableOr t (newElement e (tableOf e) c)
+new-table Input c h = refl
+new-table Output c h = refl
+new-table (Register r) c h = refl
+new-table (Async k) c h = h
+new-table (Clocked k r) c h = h
+new-table (Gate o) c h = refl
+
+memory-one : (e : Element) → eqb (one (isAsync e) + one (isClocked e)) 1 ≡ isMemory e
+memory-one Input = refl
+memory-one Output = refl
+memory-one (Register r) = refl
+memory-one (Async k) = refl
+memory-one (Clocked k r) = refl
+memory-one (Gate o) = refl
+
+-- ---- the row of an element, and of its node
+
+-- old node u made new, and a register as wide as it, over what they read
+abbrev pub entryNode : Net → ℕ → ℕ → List ℕ → Node
+entryNode N u word xs = record { element = newElement (elementAt N u) (tableOf (elementAt N u)) word; width = widthAt N u; sources = xs }
+
+abbrev pub registerNode : Net → ℕ → ℕ → List ℕ → Node
+registerNode N u word xs = record { element = Register word; width = widthAt N u; sources = xs }
+
+abbrev pub RowOf : Row → Node → Type 0
+RowOf r x = Fits r × (rowNode r ≡ x)
+
+module _ (e : Element) {c n k t : ℕ} (code : c ≡ codeOf e) (count : n ≡ operands e) (number : k ≡ numberOr k e) (table : t ≡ tableOr t e) where
+  element-is : elementBy c k t ≡ e
+  element-is = (λ i. elementBy (code i) (number i) (table i)) ∙ element-named k t e
+
+  made : {w : ℕ} (xs : List ℕ) → w < 256 → t < 256 → (c ≡ 18 → k < 256) → RowOf (record { code = c; width = w; count = n; sources = xs; number = k; table = t }) (record { element = e; width = w; sources = xs })
+  unfolding rowNode
+  made {w} xs a b l = (
+    record { coded = subst Coded (sym code) (coded e); width = a; count = count ∙ ap operands (sym element-is); table = b; lowest = l },
+    λ i. record { element = element-is i; width = w; sources = xs },
+  )
+
+pub row-as : {r : Row} {x y : Node} → RowOf r x → x ≡ y → RowOf r y
+row-as h e = (h .0, h .1 ∙ e)
+
+module _ (s l : List ℕ) (o : Circuit s l) (u : ℕ) (h : u < size (netOf s l)) (word : ℕ) (xs : List ℕ) where
+  abbrev N : Net
+  N = netOf s l
+
+  pub entry-row : {c rom clocked k k′ n t w : ℕ} → c ≡ codeOf (elementAt N u) → rom ≡ one (isAsync (elementAt N u)) → clocked ≡ one (isClocked (elementAt N u)) → n ≡ operands (elementAt N u)
+      → k ≡ numberOr k (elementAt N u) → k′ ≡ cond (eqb (rom + clocked) 1) word k → (t ≡ tableOr t (elementAt N u)) × (t < 256) → (w ≡ widthAt N u) × (w < 256)
+      → RowOf (record { code = c + rom; width = w; count = n; sources = xs; number = k′; table = t }) (entryNode N u word xs)
+  entry-row {c} {rom} {clocked} {k} {k′} {n} {t} {w} code r q count number held table width =
+      row-as (made (newElement e m word) (omega (arith, code, r, new-code m word e)) (count ∙ sym (new-operands m word e)) held-is (new-table e word (table .0)) xs (width .1) (table .1) lowest)
+      (λ i. record { element = newElement e m word; width = width .0 i; sources = xs })
+    where
+      e : Element
+      e = elementAt N u
+
+      m : ℕ
+      m = tableOf e
+
+      k-is : k′ ≡ cond (isMemory e) word k
+      k-is = held ∙ (λ i. cond (eqb (r i + q i) 1) word k) ∙ ap (λ (b : Bool). cond b word k) (memory-one e)
+
+      held-is : k′ ≡ numberOr k′ (newElement e m word)
+      held-is = subst (λ (z : ℕ). z ≡ numberOr z (newElement e m word)) (sym k-is) (new-number m word e number)
+
+      -- a part is no ROM: its number is the old one
+      part-number : (x : Element) → codeOf x + one (isAsync x) ≡ 18 → (cond (isMemory x) word k ≡ k) × (codeOf x ≡ 18)
+      part-number Input g = absurd (omega arith)
+      part-number Output g = absurd (omega arith)
+      part-number (Register z) g = absurd (omega arith)
+      part-number (Async z) g = absurd (omega arith)
+      part-number (Clocked z y) g = absurd (omega arith)
+      part-number (Gate z) g = (refl, omega arith)
+
+      lowest : c + rom ≡ 18 → k′ < 256
+      lowest g =
+          let p = part-number e (omega (arith, code, r)) in
+          omega (arith, k-is, p .0, part-small s l o u h code number (code ∙ p .1))
+
+  pub register-row : {w : ℕ} → (w ≡ widthAt N u) × (w < 256)
+      → RowOf (record { code = 2; width = w; count = 1; sources = xs; number = word; table = 0 }) (registerNode N u word xs)
+  register-row width = row-as (made (Register word) refl refl refl refl xs (width .1) (omega arith) (λ g. absurd (omega arith))) (λ i. record { element = Register word; width = width .0 i; sources = xs })

@@ -1,0 +1,126 @@
+// The file of a circuit: how long it is, and its writing. The head, the tables, the nodes, the end.
+use circuit::code_of;
+use circuit::is_kind;
+use circuit::node_count;
+use circuit::source_count;
+use circuit::table_count;
+use circuit::table_place;
+use opening::rows::node_of;
+use writer::copy_table;
+use writer::put_end;
+use writer::put_head;
+use writer::put_node;
+use writer::table_length;
+ghost use mathlib.Core.Path.{_≡_};
+ghost use mathlib.Core.List.{_++_};
+ghost use Prim.Native.Nat.{_+_, _≤_, _<_};
+ghost use lib.ListN.{length, drop};
+ghost use Rattle.lists.specs.Lists.{concatMap};
+ghost use Rattle.netlist.specs.Net.{Net, size, nodeAt};
+ghost use Rattle.netlist.specs.File.{tableBytes, nodeBytes, encode};
+ghost use Rattle.circuit.specs.Circuit.{netOf, Circuit};
+ghost use Rattle.circuit.specs.Opened.{opened};
+ghost use Rattle.writer.specs.Written.{Puts};
+ghost use Rattle.saving.specs.Lengths.{ownLength};
+
+// How many bytes the fields of the tables take.
+fn tables_length(file: &[u8], net: &[u16]) -> usize
+    ghost { Net }
+    requires { λ N. ⌜ netOf (now file) (now net) ≡ N ⌝ ∗ ⌜ Circuit (now file) (now net) ⌝ }
+    ensures { λ N r. ⌜ (r ≡ length (concatMap tableBytes (N .tables))) × (r ≤ 1048608) ⌝ }
+{
+    let n = table_count(file, net);
+    let mut sum: usize = 0;
+    let mut k: usize = 0;
+    while k < n {
+        sum = sum + table_length(file, table_place(file, net, k));
+        k = k + 1;
+    }
+    sum
+}
+
+// How long the field of a node is but for its sources, by its code: kinds follow no pattern, so there is no branch on them.
+fn own_length(code: usize) -> usize
+    ensures { λ r. ⌜ (r ≡ 5 + ownLength code) × (r ≤ 15) ⌝ }
+{
+    let held = 2 * is_kind(code, 2) + is_kind(code, 3) + 3 * is_kind(code, 4);
+    let gate = 1 - is_kind(code / 8, 0);
+    5 + held + gate + 2 * is_kind(code, 8) + is_kind(code, 18)
+}
+
+// How long the field of node v is.
+fn node_length(file: &[u8], net: &[u16], v: usize) -> usize
+    ghost { Net }
+    requires { λ N. opened 𝓤 (now file) (now net) N (v < size N) }
+    ensures { λ N r. ⌜ (r ≡ length (nodeBytes (nodeAt N v))) × (r ≤ 12) ⌝ }
+{
+    own_length(code_of(file, net, v)) + 2 * source_count(file, net, v)
+}
+
+// How many bytes the fields of the nodes take.
+fn nodes_length(file: &[u8], net: &[u16]) -> usize
+    ghost { Net }
+    requires { λ N. ⌜ netOf (now file) (now net) ≡ N ⌝ ∗ ⌜ Circuit (now file) (now net) ⌝ }
+    ensures { λ N r. ⌜ (r ≡ length (concatMap nodeBytes (N .nodes))) × (r ≤ 12288) ⌝ }
+{
+    let n = node_count(file, net);
+    let mut sum: usize = 0;
+    let mut v: usize = 0;
+    while v < n {
+        sum = sum + node_length(file, net, v);
+        v = v + 1;
+    }
+    sum
+}
+
+// How long the file is.
+pub fn circuit_length(file: &[u8], net: &[u16]) -> usize
+    ghost { Net }
+    requires { λ N. ⌜ netOf (now file) (now net) ≡ N ⌝ ∗ ⌜ Circuit (now file) (now net) ⌝ }
+    ensures { λ N r. ⌜ r ≡ length (encode N) ⌝ }
+{
+    7 + tables_length(file, net) + nodes_length(file, net)
+}
+
+// Writes the fields of the tables at an offset, and those of the nodes.
+fn put_tables(file: &[u8], net: &[u16], out: &mut [u8], at: usize) -> usize
+    ghost { Net }
+    requires { λ N. opened 𝓤 (now file) (now net) N (at + length (concatMap tableBytes (N .tables)) ≤ length (now out)) }
+    ensures { λ N r. ⌜ Puts (now (out .entry)) at (concatMap tableBytes (N .tables)) r (now (out .exit)) ⌝ }
+{
+    let n = table_count(file, net);
+    let mut next = at;
+    let mut k: usize = 0;
+    while k < n {
+        next = copy_table(file, table_place(file, net, k), out, next);
+        k = k + 1;
+    }
+    next
+}
+
+fn put_nodes(file: &[u8], net: &[u16], out: &mut [u8], at: usize) -> usize
+    ghost { Net }
+    requires { λ N. opened 𝓤 (now file) (now net) N (at + length (concatMap nodeBytes (N .nodes)) ≤ length (now out)) }
+    ensures { λ N r. ⌜ Puts (now (out .entry)) at (concatMap nodeBytes (N .nodes)) r (now (out .exit)) ⌝ }
+{
+    let n = node_count(file, net);
+    let mut next = at;
+    let mut v: usize = 0;
+    while v < n {
+        next = put_node(out, next, node_of(file, net, v));
+        v = v + 1;
+    }
+    next
+}
+
+// Writes the file at the front of the output, where the bytes past it stay, and gives its length.
+pub fn write_circuit(file: &[u8], net: &[u16], out: &mut [u8]) -> usize
+    ghost { Net }
+    requires { λ N. opened 𝓤 (now file) (now net) N (length (encode N) ≤ length (now out)) }
+    ensures { λ N r. ⌜ (r ≡ length (encode N)) × (now (out .exit) ≡ encode N ++ drop (length (encode N)) (now (out .entry))) ⌝ }
+{
+    let after_head = put_head(out, 0);
+    let after_tables = put_tables(file, net, out, after_head);
+    let after_nodes = put_nodes(file, net, out, after_tables);
+    put_end(out, after_nodes)
+}
