@@ -4,8 +4,8 @@ use mathlib.Core.List.{List, [], _∷_, _++_, append-assoc, map}
 use Prim.Native.Nat.{ℕ, zero, suc, _+_, _-_, _*_, _≤_, _<_, zero-le}
 use native.Mathlib.Nat.{zero-add}
 use native.Mathlib.Omega.{arith}
-use lib.ListN.{length, getD, set, take, drop, length-set, length-drop}
-use lib.Seq.{sets, length-sets, sets-eq, getD-set-same, getD-set-other, getD-append-add, getD-take, getD-drop, length-take-le, take-append-seam, take-suc, take-all, ext-getD}
+use lib.ListN.{length, getD, set, take, drop, length-set}
+use lib.Seq.{sets, length-sets, sets-eq, getD-set-same, getD-set-other, getD-append-add, getD-take, length-take-le, take-append-seam, take-suc, take-all, ext-getD}
 use borrow.Author.Count.{below-more}
 use Rattle.lists.specs.Lists.{below, upFrom}
 use Rattle.lists.specs.BelowLaws.{length-listed, getD-listed, upFrom-split}
@@ -15,7 +15,7 @@ use Rattle.netlist.specs.File.{tableIn}
 use Rattle.netlist.specs.Net.{nowhere}
 use Rattle.circuit.specs.declared.Row.{Row}
 use Rattle.circuit.specs.Circuit.{rowsFrom, rowWords, circuitWords, field, rowNode, rowAt, nodesOf, tablesOf, netOf, Fits, Formed, Circuit}
-use Rattle.circuit.specs.CircuitLaws.{size-nodes, size-tables, table-place}
+use Rattle.circuit.specs.CircuitLaws.{size-nodes, size-tables}
 
 -- ---- lists of values below a number
 
@@ -192,9 +192,6 @@ pub record Built (ts : List ℕ) (xs : List Node) (l : List ℕ) : Type 0 where
   pub tables : tablesOf l ≡ ts
   pub nodes : nodesOf l ≡ xs
 
-pub built-of : {ts us : List ℕ} {xs : List Node} {l : List ℕ} → ts ≡ us → Built ts xs l → Built us xs l
-built-of {xs = xs} {l} e t = subst (λ (y : List ℕ). Built y xs l) e t
-
 -- the first v nodes of a list are in the circuit
 pub record Building (ts : List ℕ) (xs : List Node) (l : List ℕ) (v : ℕ) : Type 0 where
   pub below : v ≤ length xs
@@ -243,10 +240,3 @@ module _ (s : List ℕ) {ts : List ℕ} {xs : List Node} {l : List ℕ} (t : Bui
 pub rebuilt : (s l : List ℕ) {xs : List Node} {m : List ℕ} → Circuit s l → Built (tablesOf l) xs m → (netOf s m ≡ record { tables = netOf s l .tables; nodes = xs }) × Circuit s m
 unfolding netOf
 rebuilt s l i t = (built-net s t, built-circuit s t (i .short) (i .tables))
-
--- the tables' places are a part of the circuit
-pub tables-part : (l : List ℕ) (n : ℕ) → Formed l → n ≡ length (tablesOf l) → take (2 + n - 2) (drop 2 l) ≡ tablesOf l
-tables-part l n t e =
-    let k : 2 + n - 2 ≡ n = omega arith in
-    let long : length (take n (drop 2 l)) ≡ n = length-take-le n (drop 2 l) (omega (arith, length-drop 2 l, t .room, t .few-tables)) in
-    ap (λ (j : ℕ). take j (drop 2 l)) k ∙ ext-getD 0 _ _ (long ∙ e) (λ i h. getD-take n (drop 2 l) i 0 (omega (arith, long)) ∙ getD-drop 2 l i 0 ∙ sym (table-place l i (omega (arith, long, e))))

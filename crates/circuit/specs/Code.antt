@@ -1,22 +1,20 @@
 -- An element by one number: its kind in the file, where each operation of a gate has a number of its own. The numbers 5 to 7 are kinds that have none. Assumes nothing.
 use mathlib.Core.Path.{_≡_, refl, sym}
 use mathlib.Core.Logic.{_⊎_, inl, inr, ⊎-elim}
-use mathlib.Core.Bool.{Bool, true, cond}
 use mathlib.Core.List.{[], _∷_}
 use Prim.Native.Nat.{ℕ, _+_, _-_, _≤_, _<_}
 use native.Mathlib.Omega.{arith}
-use lib.Dec.{eqb, eqb→eq, lit≤, lit<}
+use lib.Dec.{eqb, lit<}
 use borrow.Author.Tests.{ne-eqb}
 use Rattle.lists.specs.Paths.{pick, arms-eq}
 use Rattle.lists.specs.ListsLaws.{all-getD}
-use Rattle.lists.specs.TableRule.{at}
-use Rattle.words.specs.Words.{operandCounts}
 use Rattle.words.specs.declared.Op.{Op}
 use Rattle.words.specs.declared.Op.the-variants.{Constant, Not, And, Or, Xor, Add, Subtract, Equal, Less, Choose, Part, Join}
 use Rattle.netlist.specs.declared.Element.{Element}
 use Rattle.netlist.specs.declared.Element.the-variants.{Input, Output, Register, Async, Clocked, Gate}
 use Rattle.netlist.specs.NodeField.{plainOp, opNumber}
-use Rattle.netlist.specs.Net.{rom, operands, isInput, isOutput, isRegister, isAsync, isClocked}
+use Rattle.netlist.specs.NodeLaws.{plain-number}
+use Rattle.netlist.specs.Net.{rom, isInput, isOutput, isRegister, isAsync, isClocked}
 
 abbrev pub codeOf : Element → ℕ
 codeOf Input = 0
@@ -102,13 +100,6 @@ tableOr x (Gate o) = x
 
 -- ---- it has that code, that number and that table
 
-numbered : ℕ → ℕ → Bool
-numbered k x = cond (eqb k 0) true (cond (eqb k 10) true (eqb (opNumber (plainOp k)) k))
-
-plain-number : (k : ℕ) → k < 12 → (k ≡ 0 → ⊥) → (k ≡ 10 → ⊥) → opNumber (plainOp k) ≡ k
-unfolding numbered
-plain-number k h a b = eqb→eq _ _ (simp (ne-eqb _ _ a, ne-eqb _ _ b) at (at numbered operandCounts tt k h))
-
 op-code : (k x : ℕ) → k < 12 → opNumber (opBy k x) ≡ k
 unfolding opBy
 op-code k x h = arms-eq P _ _ k 0 (λ e. sym e) (λ a. arms-eq P _ _ k 10 (λ e. sym e) (λ b. plain-number k h a b))
@@ -168,29 +159,6 @@ element-named x t (Gate Join) = refl
 
 pub element-back : (e : Element) → elementBy (codeOf e) (numberOr 0 e) (tableOr 0 e) ≡ e
 element-back = element-named 0 0
-
--- at most three sources
-few-of : (o : Op) → operands (Gate o) ≤ 3
-few-of (Constant v) = lit≤ tt
-few-of Not = lit≤ tt
-few-of And = lit≤ tt
-few-of Or = lit≤ tt
-few-of Xor = lit≤ tt
-few-of Add = lit≤ tt
-few-of Subtract = lit≤ tt
-few-of Equal = lit≤ tt
-few-of Less = lit≤ tt
-few-of Choose = lit≤ tt
-few-of (Part b) = lit≤ tt
-few-of Join = lit≤ tt
-
-pub few-operands : (e : Element) → operands e ≤ 3
-few-operands Input = lit≤ tt
-few-operands Output = lit≤ tt
-few-operands (Register r) = lit≤ tt
-few-operands (Async m) = lit≤ tt
-few-operands (Clocked m r) = lit≤ tt
-few-operands (Gate o) = few-of o
 
 -- ---- what a code tells of its element
 

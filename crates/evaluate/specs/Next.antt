@@ -1,5 +1,5 @@
 -- The word that a node holds after the clock, and its word after reset. Assumes nothing.
-use mathlib.Core.Path.{_≡_}
+use mathlib.Core.Path.{_≡_, refl, ap}
 use mathlib.Core.Bool.{true, false≢true}
 use mathlib.Core.List.{List}
 use Prim.Native.Nat.{ℕ, _^_, _<_}
@@ -35,3 +35,12 @@ number-first (Register r) h q = q
 number-first (Async m) h q = absurd (false≢true h)
 number-first (Clocked m r) h q = q
 number-first (Gate o) h q = absurd (false≢true h)
+
+-- what is held next depends on the source's word alone
+pub next-same : (M : List ℕ) (d d′ : ℕ → ℕ) (e : Element) → (holdsWord e ≡ true → d 0 ≡ d′ 0) → holds-next M e d ≡ holds-next M e d′
+next-same M d d′ Input h = refl
+next-same M d d′ Output h = refl
+next-same M d d′ (Register r) h = h refl
+next-same M d d′ (Async m) h = refl
+next-same M d d′ (Clocked m r) h = ap (λ (a : ℕ). getD M a 0) (h refl)
+next-same M d d′ (Gate o) h = refl

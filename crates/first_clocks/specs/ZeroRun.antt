@@ -22,7 +22,7 @@ use Rattle.behaviour.specs.Fits.{words-fit}
 use Rattle.evaluate.specs.Rows.{rowTest, rowOf, RowFits}
 use Rattle.evaluate.specs.Clock.{clockWords, Evaluated}
 use Rattle.evaluate.specs.declared.Row.the-variants.{Inputs, State}
-use Rattle.evaluate.specs.Next.{nextWord, WordsFit, holder-reads, number-first}
+use Rattle.evaluate.specs.Next.{nextWord, WordsFit, holder-reads, number-first, next-same}
 use Rattle.first_clocks.specs.Wanted.{WordsAt}
 
 -- input ports, registers and clocked ROMs have their words of clock t
@@ -88,15 +88,6 @@ next-gives M w ws i d t (Register r) h = refl
 next-gives M w ws i d t (Async m) h = absurd (false≢true h)
 next-gives M w ws i d t (Clocked m r) h = refl
 next-gives M w ws i d t (Gate o) h = absurd (false≢true h)
-
--- it depends on the word that it reads alone
-next-same : (M : List ℕ) (d d′ : ℕ → ℕ) (e : Element) → (holdsWord e ≡ true → d 0 ≡ d′ 0) → holds-next M e d ≡ holds-next M e d′
-next-same M d d′ Input h = refl
-next-same M d d′ Output h = refl
-next-same M d d′ (Register r) h = h refl
-next-same M d d′ (Async m) h = refl
-next-same M d d′ (Clocked m r) h = ap (λ (a : ℕ). getD M a 0) (h refl)
-next-same M d d′ (Gate o) h = refl
 
 input-gives : (M : List ℕ) (w : ℕ) (ws i : ℕ → ℕ) (d : ℕ → ℕ → ℕ) (t : ℕ) (e : Element) → isInput e ≡ true → i t ≡ gives M e w ws i d t
 input-gives M w ws i d t Input h = refl

@@ -1,14 +1,13 @@
 -- The rewritten netlist, built node by node over the tables of the old one. Assumes nothing.
 use mathlib.Core.Path.{_≡_, refl, sym, ap, _∙_}
-use mathlib.Core.List.{List, map}
+use mathlib.Core.List.{List}
 use Prim.Native.Nat.{ℕ, _<_}
 use lib.ListN.{length, getD, length-map}
 use Rattle.lists.specs.BelowLaws.{getD-map-lt}
 use Rattle.netlist.specs.declared.Node.{Node}
 use Rattle.netlist.specs.Net.{Net, nowhere}
-use Rattle.netlist.specs.File.{tableIn}
 use Rattle.circuit.specs.Circuit.{tablesOf, netOf, Circuit}
-use Rattle.circuit.specs.Building.{Built, built-net, built-circuit}
+use Rattle.circuit.specs.Building.{Built, rebuilt}
 use Rattle.behaviour.specs.Run.{zeroWord}
 use Rattle.retiming.specs.Rewrite.{places, nodeOf, newTables, timing, rewrittenWith, rewritten}
 use Rattle.retiming.specs.Layout.{noPlace}
@@ -29,8 +28,6 @@ module _ (N : Net) where
 
 -- THE LAW: over the tables of the old circuit all nodes make the rewritten netlist
 pub laid : {s net new : List ℕ} {N : Net} → netOf s net ≡ N → Circuit s net → Built (tablesOf net) (rewritten N .nodes) new → (netOf s new ≡ rewritten N) × Circuit s new
-unfolding netOf
-laid {s} {net} {new} {N} e k t = (built-net s t ∙ (λ i. record { tables = tables-are i; nodes = rewritten N .nodes }), built-circuit s t (k .short) (k .tables))
-  where
-    tables-are : map (tableIn s) (tablesOf net) ≡ rewritten N .tables
-    tables-are = ap (λ (M : Net). M .tables) e ∙ sym (new-tables N)
+laid {s} {net} {N = N} e k t =
+    let r = rebuilt s net k t in
+    (r .0 ∙ (λ i. record { tables = (ap (λ (M : Net). M .tables) e ∙ sym (new-tables N)) i; nodes = rewritten N .nodes }), r .1)

@@ -11,9 +11,9 @@ use Rattle.netlist.specs.declared.Node.{Node}
 use lib.Dec.{eqb}
 use Rattle.netlist.specs.Net.{Net, size, elementAt, widthAt, operands, tableOf, isAsync, isClocked, isMemory}
 use Rattle.circuit.specs.declared.Row.{Row}
-use Rattle.circuit.specs.Code.{Coded, codeOf, coded, elementBy, numberOr, tableOr, element-named}
+use Rattle.circuit.specs.Code.{codeOf, numberOr, tableOr}
 use Rattle.circuit.specs.Circuit.{rowNode, netOf, Fits, Circuit}
-use Rattle.opening.specs.Rows.{part-small}
+use Rattle.opening.specs.Rows.{row-fits, row-node, part-small}
 use Rattle.retiming.specs.Rewrite.{newElement}
 
 module _ (m c : ℕ) where
@@ -69,17 +69,6 @@ registerNode N u word xs = record { element = Register word; width = widthAt N u
 abbrev pub RowOf : Row → Node → Type 0
 RowOf r x = Fits r × (rowNode r ≡ x)
 
-module _ (e : Element) {c n k t : ℕ} (code : c ≡ codeOf e) (count : n ≡ operands e) (number : k ≡ numberOr k e) (table : t ≡ tableOr t e) where
-  element-is : elementBy c k t ≡ e
-  element-is = (λ i. elementBy (code i) (number i) (table i)) ∙ element-named k t e
-
-  made : {w : ℕ} (xs : List ℕ) → w < 256 → t < 256 → (c ≡ 18 → k < 256) → RowOf (record { code = c; width = w; count = n; sources = xs; number = k; table = t }) (record { element = e; width = w; sources = xs })
-  unfolding rowNode
-  made {w} xs a b l = (
-    record { coded = subst Coded (sym code) (coded e); width = a; count = count ∙ ap operands (sym element-is); table = b; lowest = l },
-    λ i. record { element = element-is i; width = w; sources = xs },
-  )
-
 pub row-as : {r : Row} {x y : Node} → RowOf r x → x ≡ y → RowOf r y
 row-as h e = (h .0, h .1 ∙ e)
 
@@ -91,8 +80,11 @@ module _ (s l : List ℕ) (o : Circuit s l) (u : ℕ) (h : u < size (netOf s l))
       → k ≡ numberOr k (elementAt N u) → k′ ≡ cond (eqb (rom + clocked) 1) word k → (t ≡ tableOr t (elementAt N u)) × (t < 256) → (w ≡ widthAt N u) × (w < 256)
       → RowOf (record { code = c + rom; width = w; count = n; sources = xs; number = k′; table = t }) (entryNode N u word xs)
   entry-row {c} {rom} {clocked} {k} {k′} {n} {t} {w} code r q count number held table width =
-      row-as (made (newElement e m word) (omega (arith, code, r, new-code m word e)) (count ∙ sym (new-operands m word e)) held-is (new-table e word (table .0)) xs (width .1) (table .1) lowest)
-      (λ i. record { element = newElement e m word; width = width .0 i; sources = xs })
+      let x = entryNode N u word xs in
+      let f : c + rom ≡ codeOf (x .element) = omega (arith, code, r, new-code m word e) in
+      let g = count ∙ sym (new-operands m word e) in
+      let d = new-table e word (table .0) in
+      (row-fits x k′ t (width .0) refl f g held-is d (width .1) (table .1) (λ z. lowest (f ∙ z)), row-node x k′ t (width .0) refl f g held-is d)
     where
       e : Element
       e = elementAt N u
@@ -122,4 +114,6 @@ module _ (s l : List ℕ) (o : Circuit s l) (u : ℕ) (h : u < size (netOf s l))
 
   pub register-row : {w : ℕ} → (w ≡ widthAt N u) × (w < 256)
       → RowOf (record { code = 2; width = w; count = 1; sources = xs; number = word; table = 0 }) (registerNode N u word xs)
-  register-row width = row-as (made (Register word) refl refl refl refl xs (width .1) (omega arith) (λ g. absurd (omega arith))) (λ i. record { element = Register word; width = width .0 i; sources = xs })
+  register-row width =
+      let x = registerNode N u word xs in
+      (row-fits x 0 0 (width .0) refl refl refl refl refl (width .1) (omega arith) (λ g. absurd (omega arith)), row-node x 0 0 (width .0) refl refl refl refl refl)

@@ -1,6 +1,6 @@
 -- The operations by their number. Assumes nothing.
 use mathlib.Core.Path.{_≡_, refl, sym, ap, _∙_}
-use mathlib.Core.Bool.{Bool, true, false, cond}
+use mathlib.Core.Bool.{Bool, true, false}
 use mathlib.Core.List.{List}
 use Prim.Native.Nat.{ℕ, _+_, _-_, _*_, _/_, _%_, _^_, _≤_, _<_}
 use native.Mathlib.Nat.{mod-lt}
@@ -8,25 +8,18 @@ use native.Mathlib.Omega.{arith}
 use lib.ListN.{length, getD}
 use lib.Pow.{pow-pos}
 use lib.Dec.{T, ltb, eqb, eqb→eq}
-use borrow.Author.Tests.{ne-eqb}
 use Rattle.lists.specs.Paths.{pick, arms-lt, arms-eq}
 use Rattle.lists.specs.TableRule.{every, at}
 use Rattle.words.specs.declared.Op.{Op}
 use Rattle.words.specs.declared.Op.the-variants.{Constant, Not, And, Or, Xor, Add, Subtract, Equal, Less, Choose, Part, Join}
 use Rattle.words.specs.Words.{operandCounts}
 use Rattle.netlist.specs.Net.{operands}
-use Rattle.netlist.specs.NodeField.{plainOp, opNumber}
+use Rattle.netlist.specs.NodeField.{opNumber}
+use Rattle.netlist.specs.NodeLaws.{plain-number}
 use Rattle.netlist.specs.declared.Element.the-variants.{Gate}
 use Rattle.nodes.specs.Unchecked.{opUnchecked}
 
 -- ---- the number that a content's bytes give
-
-numbered : ℕ → ℕ → Bool
-numbered k x = cond (eqb k 0) true (cond (eqb k 10) true (eqb (opNumber (plainOp k)) k))
-
-plain-number : (k : ℕ) → k < 12 → (k ≡ 0 → ⊥) → (k ≡ 10 → ⊥) → opNumber (plainOp k) ≡ k
-unfolding numbered
-plain-number k h a b = eqb→eq _ _ (simp (ne-eqb _ _ a, ne-eqb _ _ b) at (at numbered operandCounts tt k h))
 
 pub op-number : (c : List ℕ) → getD c 2 0 ≤ 11 → opNumber (opUnchecked c) ≡ getD c 2 0
 op-number c h =

@@ -13,24 +13,25 @@ use Rattle.netlist.specs.declared.Element.the-variants.{Gate}
 use Rattle.netlist.specs.declared.Node.{Node}
 use Rattle.netlist.specs.Net.{nodeAt, elementAt, widthAt, source, size, operands}
 use Rattle.netlist.specs.NodeField.{plainOp}
-use Rattle.circuit.specs.Code.{Coded, codeOf, opBy, elementBy, numberOr, tableOr, coded, element-named, element-back}
+use Rattle.circuit.specs.Code.{Coded, codeOf, opBy, elementBy, numberOr, tableOr, coded, element-named}
 use Rattle.circuit.specs.Circuit.{field, atCode, atNumber, atTable, rowNode, netOf, Fits, Circuit}
 use Rattle.circuit.specs.CircuitLaws.{row-of, node-of, element-at, code-at}
 use Rattle.circuit.specs.Building.{three-are}
 
 -- ---- the row of a node
 
-module _ (x : Node) {c w n k t : ℕ} {l : List ℕ} (width : w ≡ x .width) (sources : l ≡ x .sources)
-    (code : c ≡ codeOf (x .element)) (count : n ≡ operands (x .element)) (number : k ≡ numberOr 0 (x .element)) (table : t ≡ tableOr 0 (x .element)) where
+-- where an element has no number or no table, any stands in its row
+module _ (x : Node) (a b : ℕ) {c w n k t : ℕ} {l : List ℕ} (width : w ≡ x .width) (sources : l ≡ x .sources)
+    (code : c ≡ codeOf (x .element)) (count : n ≡ operands (x .element)) (number : k ≡ numberOr a (x .element)) (table : t ≡ tableOr b (x .element)) where
   element-is : elementBy c k t ≡ x .element
-  element-is = (λ i. elementBy (code i) (number i) (table i)) ∙ element-back (x .element)
+  element-is = (λ i. elementBy (code i) (number i) (table i)) ∙ element-named a b (x .element)
 
   pub row-fits : w < 256 → t < 256 → (codeOf (x .element) ≡ 18 → k < 256) → Fits (record { code = c; width = w; count = n; sources = l; number = k; table = t })
-  row-fits a b d = record {
+  row-fits i j d = record {
     coded = subst Coded (sym code) (coded (x .element));
-    width = a;
+    width = i;
     count = count ∙ ap operands (sym element-is);
-    table = b;
+    table = j;
     lowest = λ q. d (sym code ∙ q);
   }
 

@@ -1,5 +1,5 @@
 -- Rows that were loaded one after the other, and then evaluated: the words of the run. Assumes nothing.
-use mathlib.Core.Path.{_≡_, refl, sym, ap, ap₂, subst, _∙_}
+use mathlib.Core.Path.{_≡_, refl, sym, ap₂, subst, _∙_}
 use mathlib.Core.Bool.{true, false, false≢true}
 use mathlib.Core.List.{List, map}
 use Prim.Native.Nat.{ℕ, _^_, _<_}
@@ -15,7 +15,7 @@ use Rattle.evaluate.specs.Rows.{rowTest, rowMembers, rowOf, RowFits, Loaded}
 use Rattle.evaluate.specs.Clock.{clockWords, Evaluated}
 use Rattle.evaluate.specs.Settling.{clock-fits}
 use Rattle.evaluate.specs.declared.Row.the-variants.{Inputs, Outputs, State}
-use Rattle.evaluate.specs.Next.{WordsFit, holder-reads}
+use Rattle.evaluate.specs.Next.{WordsFit, holder-reads, next-same}
 
 -- no input port has a word in the state
 apart : (e : Element) → isInput e ≡ true → holdsWord e ≡ false
@@ -25,15 +25,6 @@ apart (Register r) h = absurd (false≢true h)
 apart (Async m) h = refl
 apart (Clocked m r) h = absurd (false≢true h)
 apart (Gate o) h = refl
-
--- what is held next depends on the source's word alone
-next-same : (M : List ℕ) (d d′ : ℕ → ℕ) (e : Element) → (holdsWord e ≡ true → d 0 ≡ d′ 0) → holds-next M e d ≡ holds-next M e d′
-next-same M d d′ Input h = refl
-next-same M d d′ Output h = refl
-next-same M d d′ (Register r) h = h refl
-next-same M d d′ (Async m) h = refl
-next-same M d d′ (Clocked m r) h = ap (λ (a : ℕ). getD M a 0) (h refl)
-next-same M d d′ (Gate o) h = refl
 
 module _ {N : Net} {st ins w₀ w₁ w₂ : List ℕ} (a : Loaded Inputs N ins w₀ w₁) (b : Loaded State N st w₁ w₂) where
   inputs-stay : (v : ℕ) → rowTest Inputs N v ≡ true → getD w₂ v 0 ≡ getD w₁ v 0

@@ -2,7 +2,7 @@
 use mathlib.Core.Path.{_∙_}
 use native.Mathlib.Omega.{arith}
 use Rattle.netlist.specs.Net.{elementAt}
-use Rattle.circuit.specs.Code.{few-operands}
+use Rattle.netlist.specs.NodeLaws.{few-operands}
 use Rattle.circuit.specs.Circuit.{netOf}
 use Rattle.circuit.specs.CircuitLaws.{count-at}
 use borrow.Author.Needs.{needs}

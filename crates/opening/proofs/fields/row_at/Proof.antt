@@ -41,7 +41,7 @@ returns c =
     let held = c .before .held-at .ensures in
     let width = c .width-at .ensures in
     let w : c .width-at .result < 256 = search needs in
-    (row-fits x width sources code count (held .0) (held .1) w (held .2) (held .3), row-node x width sources code count (held .0) (held .1))
+    (row-fits x 0 0 width sources code count (held .0) (held .1) w (held .2) (held .3), row-node x 0 0 width sources code count (held .0) (held .1))
 
 pub row-at-spec : {M : Type 1} → statement M
 row-at-spec =

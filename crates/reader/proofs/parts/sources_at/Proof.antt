@@ -2,7 +2,7 @@
 use mathlib.Core.Path.{_∙_}
 use native.Mathlib.Omega.{arith}
 use Rattle.netlist.specs.File.{nodeIn}
-use Rattle.circuit.specs.Code.{few-operands}
+use Rattle.netlist.specs.NodeLaws.{few-operands}
 use Rattle.reader.proofs.InFile as file
 use borrow.Author.Needs.{needs}
 use Rattle.reader.proofs.parts.sources_at.Statement.{statement}
