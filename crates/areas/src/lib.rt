@@ -1,4 +1,4 @@
-// Total reads and writes of work areas: past the end there is 0, and nothing is written. And a work area filled anew.
+// Total reads and writes of work areas: past the end there is 0, and nothing is written. And a work area filled anew, or with the words of another.
 ghost use mathlib.Core.Path.{_≡_};
 ghost use lib.ListN.{length, getD, set, replicate};
 
@@ -36,6 +36,17 @@ pub fn fill(numbers: &mut [u16], each: u16)
     let mut i: usize = 0;
     while i < numbers.len() {
         numbers[i] = each;
+        i = i + 1;
+    }
+}
+
+pub fn copy(from: &[u16], to: &mut [u16])
+    requires { ⌜ length (now from) ≡ length (now to) ⌝ }
+    ensures { λ _. ⌜ now (to .exit) ≡ now (from .entry) ⌝ }
+{
+    let mut i: usize = 0;
+    while i < from.len() {
+        to[i] = from[i];
         i = i + 1;
     }
 }

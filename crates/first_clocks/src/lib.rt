@@ -1,4 +1,5 @@
 // The first words of a netlist: it is run from reset, with all inputs 0, and the words that are wanted are taken clock by clock.
+use areas::copy;
 use areas::number_at;
 use areas::put_number;
 use circuit::node_count;
@@ -197,18 +198,6 @@ fn load_next(file: &[u8], net: &[u16], words: &[u16], next: &mut [u16])
     while v < n {
         put_number(next, v, begins_with(file, net, v, words));
         v = v + 1;
-    }
-}
-
-// Copies words.
-fn copy(from: &[u16], to: &mut [u16])
-    requires { ⌜ length (now from) ≡ length (now to) ⌝ }
-    ensures { λ _. ⌜ now (to .exit) ≡ now (from .entry) ⌝ }
-{
-    let mut i: usize = 0;
-    while i < from.len() {
-        to[i] = from[i];
-        i = i + 1;
     }
 }
 

@@ -4,18 +4,21 @@ use mathlib.Core.Logic.{⊎-elim}
 use mathlib.Core.Bool.{Bool, cond}
 use mathlib.Core.List.{List, [], _∷_}
 use Prim.Native.Nat.{ℕ, _+_, _*_, _≤_, _<_}
+use native.Mathlib.Omega.{arith}
 use lib.ListN.{getD}
 use lib.Dec.{ltb}
 use borrow.Author.Tests.{lt-ltb, le-ltb}
 use Rattle.lists.specs.BelowLaws.{lt-or-le}
+use Rattle.lists.specs.Sections.{section-read}
 use Rattle.netlist.specs.declared.Element.{Element}
 use Rattle.netlist.specs.declared.Element.the-variants.{Register}
 use Rattle.netlist.specs.declared.Node.{Node}
-use Rattle.netlist.specs.Net.{Net, nodeAt, elementAt, widthAt, source, operands, tableOf}
+use Rattle.netlist.specs.Net.{Net, nodeAt, elementAt, widthAt, operands, tableOf}
 use Rattle.behaviour.specs.Run.{zeroWord}
 use Rattle.retiming.specs.Rewrite.{Place, Entry, Reg, newElement, newTable, newSource, numberOf, along, places, nodeOf, timing}
 use Rattle.retiming.specs.Layout.{noPlace}
 use Rattle.layout.specs.NewRow.{entryNode, registerNode}
+use Rattle.plan.specs.Areas.{ownersIn, sourcesIn}
 use Rattle.plan.specs.Plan.{RegAt, Planned}
 
 -- node i
@@ -25,6 +28,17 @@ newNode N i = nodeOf N (timing N) (zeroWord N) (getD (places N (timing N) (zeroW
 -- what stands in a work area from an offset on, for the first n
 abbrev pub readBy : List ℕ → ℕ → ℕ → ℕ → ℕ
 readBy sources at n p = cond (ltb p n) (getD sources (at + p) 0) 0
+
+-- the words of the plan's area, as its sections have them
+pub owner-read : (plan : List ℕ) (i : ℕ) → i < 1024 → getD plan i 0 ≡ getD (ownersIn plan) i 0
+owner-read plan i h = ap (λ (k : ℕ). getD plan k 0) (let e : i ≡ 0 + i = omega arith in e) ∙ sym (section-read 0 1024 plan i h)
+
+pub source-read : (plan : List ℕ) (i p : ℕ) → i < 1024 → p < 3 → getD plan (4096 + 3 * i + p) 0 ≡ getD (sourcesIn plan) (3 * i + p) 0
+source-read plan i p h l =
+    ap (λ (k : ℕ). getD plan k 0) (let e : 4096 + 3 * i + p ≡ 4096 + (3 * i + p) = omega arith in e) ∙ sym (section-read 4096 3072 plan (3 * i + p) (omega arith))
+
+pub first-read : (sources : List ℕ) (at : ℕ) → readBy sources at 1 0 ≡ getD sources at 0
+first-read sources at = ap (λ (k : ℕ). getD sources k 0) (let e : at + 0 ≡ at = omega arith in e)
 
 node-as : {e e′ : Element} {w w′ a a′ b b′ d d′ : ℕ} → e ≡ e′ → w ≡ w′ → a ≡ a′ → b ≡ b′ → d ≡ d′
     → _≡_ {A = Node} (record { element = e; width = w; sources = a ∷ b ∷ d ∷ [] }) (record { element = e′; width = w′; sources = a′ ∷ b′ ∷ d′ ∷ [] })

@@ -11,26 +11,33 @@ use circuit::table_of;
 use circuit::wide;
 use circuit::width_of;
 use opening::copy_head;
+use plan::Plan;
+use plan::SOURCES;
 ghost use mathlib.Core.Path.{_≡_};
 ghost use mathlib.Core.Bool.{cond};
 ghost use mathlib.Core.List.{[], _∷_};
-ghost use Prim.Native.Nat.{_≤_, _<_};
+ghost use Prim.Native.Nat.{_*_, _≤_, _<_};
 ghost use lib.ListN.{length};
 ghost use lib.Dec.{eqb};
 ghost use Rattle.netlist.specs.Net.{Net, size};
 ghost use Rattle.circuit.specs.Circuit.{circuitWords, netOf, Circuit};
 ghost use Rattle.circuit.specs.Opened.{opened};
 ghost use Rattle.retiming.specs.Rewrite.{rewritten};
+ghost use Rattle.plan.specs.Areas.{ownersIn, sourcesIn};
 ghost use Rattle.plan.specs.Plan.{Planned};
 ghost use Rattle.layout.specs.PlannedNode.{newNode, readBy};
 ghost use Rattle.layout.specs.NewRow.{entryNode, registerNode, RowOf};
 
-// The number at the p-th place from an offset on, where p is below n; else 0.
-fn read_by(sources: &[u16], at: usize, n: usize, p: usize) -> u16
-    requires { ⌜ (at ≤ 65535) × (p < 3) ⌝ }
-    ensures { λ r. ⌜ r ≡ readBy (now (sources .entry)) at n p ⌝ }
+// What planned node i reads at its p-th operand, where p is below n; else 0.
+fn read_by(plan: &[u16], i: usize, n: usize, p: usize) -> u16
+    requires { ⌜ (i < 1024) × (p < 3) ⌝ }
+    ensures { λ r. ⌜ r ≡ readBy (sourcesIn (now (plan .entry))) (3 * i) n p ⌝ }
 {
-    if p < n { number_at(sources, at + p) } else { 0 }
+    if p < n {
+        number_at(plan, SOURCES + 3 * i + p)
+    } else {
+        0
+    }
 }
 
 // The number of a new row: a ROM's is its reset word, and any other's stays.
@@ -77,31 +84,22 @@ fn register_row(file: &[u8], net: &[u16], u: usize, word: u16, from: u16) -> Row
 }
 
 // The row of the i-th node of the rewritten netlist, as it is planned.
-fn planned_row(
-    file: &[u8],
-    net: &[u16],
-    entries: usize,
-    total: usize,
-    owners: &[u16],
-    words: &[u16],
-    sources: &[u16],
-    i: usize,
-) -> Row
+fn planned_row(file: &[u8], net: &[u16], made: Plan, plan: &[u16], words: &[u16], i: usize) -> Row
     ghost { Net }
-    requires { λ N. opened 𝓤 (now file) (now net) N (Planned N (now owners) (now words) (now sources) entries total × (total ≤ 1024) × (i < total)) }
+    requires { λ N. opened 𝓤 (now file) (now net) N (Planned N (ownersIn (now plan)) (now words) (sourcesIn (now plan)) (made .entries) (made .total)
+        × (made .total ≤ 1024) × (i < made .total)) }
     ensures { λ N r. ⌜ RowOf r (newNode N i) ⌝ }
 {
-    let owner = wide(number_at(owners, i));
+    let owner = wide(number_at(plan, i));
     let word = number_at(words, i);
-    let at = 3 * i;
-    if i < entries {
+    if i < made.entries {
         let n = source_count(file, net, owner);
-        let first = read_by(sources, at, n, 0);
-        let second = read_by(sources, at, n, 1);
-        let third = read_by(sources, at, n, 2);
+        let first = read_by(plan, i, n, 0);
+        let second = read_by(plan, i, n, 1);
+        let third = read_by(plan, i, n, 2);
         entry_row(file, net, owner, word, [first, second, third])
     } else {
-        register_row(file, net, owner, word, number_at(sources, at))
+        register_row(file, net, owner, word, read_by(plan, i, 1, 0))
     }
 }
 
@@ -109,25 +107,21 @@ fn planned_row(
 pub fn lay_circuit(
     file: &[u8],
     net: &[u16],
-    entries: usize,
-    total: usize,
-    owners: &[u16],
+    made: Plan,
+    plan: &[u16],
     words: &[u16],
-    sources: &[u16],
     new: &mut [u16],
 )
     ghost { Net }
-    requires { λ N. opened 𝓤 (now file) (now net) N (Planned N (now owners) (now words) (now sources) entries total × (total ≤ 1024) × (circuitWords ≤ length (now new))) }
+    requires { λ N. opened 𝓤 (now file) (now net) N (Planned N (ownersIn (now plan)) (now words) (sourcesIn (now plan)) (made .entries) (made .total)
+        × (made .total ≤ 1024) × (circuitWords ≤ length (now new))) }
     ensures { λ N _. ⌜ (netOf (now (file .entry)) (now (new .exit)) ≡ rewritten N) × Circuit (now (file .entry)) (now (new .exit)) ⌝ }
 {
     copy_head(file, net, new);
+    let total = made.total;
     let mut i: usize = 0;
     while i < total {
-        push_row(
-            new,
-            i,
-            planned_row(file, net, entries, total, owners, words, sources, i),
-        );
+        push_row(new, i, planned_row(file, net, made, plan, words, i));
         i = i + 1;
     }
 }

@@ -8,12 +8,12 @@ use circuit::source_count;
 use circuit::source_of;
 use circuit::wide;
 ghost use mathlib.Core.Path.{_≡_};
-ghost use Prim.Native.Nat.{_+_, _*_, _≤_, _<_};
+ghost use Prim.Native.Nat.{_+_, _≤_, _<_};
 ghost use Rattle.netlist.specs.Net.{Net, size, Sourced};
 ghost use Rattle.circuit.specs.Circuit.{Circuit};
 ghost use Rattle.circuit.specs.Opened.{opened};
 ghost use Rattle.retiming.specs.AtMostRoms.{romCount};
-ghost use Rattle.leads.specs.Progress.{Walked, left};
+ghost use Rattle.leads.specs.Progress.{Walked};
 
 // The stack stands first in the work area, then a flag for each node that waits on it.
 const WAITING: usize = 1024;
@@ -49,33 +49,6 @@ fn push_sources(file: &[u8], net: &[u16], x: usize, work: &mut [u16], start: usi
     depth
 }
 
-// Node x, just taken off the stack: raises what it reads, and where that raised anything, puts what it reads on the stack.
-fn visit(
-    file: &[u8],
-    net: &[u16],
-    bound: usize,
-    x: usize,
-    leads: &mut [u16],
-    work: &mut [u16],
-    depth: usize,
-) -> usize
-    ghost { Net }
-    requires { λ N. opened 𝓤 (now file) (now net) N (Sourced N × (bound ≡ romCount N) × Walked N (now leads)) }
-    ensures { λ N r. ⌜ Walked N (now (leads .exit)) × (r + 4 * left N (now (leads .exit)) ≤ depth + 4 * left N (now (leads .entry))) ⌝ }
-{
-    if node_count(file, net) <= x {
-        return depth;
-    }
-    if bound < wide(number_at(leads, x)) {
-        return 0;
-    }
-    put_number(work, WAITING + x, 0);
-    if relax(file, net, bound, x, leads) == 0 {
-        return depth;
-    }
-    push_sources(file, net, x, work, depth)
-}
-
 // The nodes in order, the last on top, so that readers come before what they read.
 fn push_order(file: &[u8], net: &[u16], work: &mut [u16]) -> usize
     requires { ⌜ Circuit (now file) (now net) ⌝ }
@@ -90,16 +63,29 @@ fn push_order(file: &[u8], net: &[u16], work: &mut [u16]) -> usize
     depth
 }
 
-// Visits the nodes in order from the last on, and again those whose lead was raised.
+// Visits the nodes in order from the last on, and again those whose lead was raised: each raises what it reads.
+// A lead over the bound shows a closed debt, and ends it.
 pub fn spread(file: &[u8], net: &[u16], bound: usize, leads: &mut [u16])
     ghost { Net }
     requires { λ N. opened 𝓤 (now file) (now net) N (Sourced N × (bound ≡ romCount N) × Walked N (now leads)) }
     ensures { λ N _. ⌜ Walked N (now (leads .exit)) ⌝ }
 {
+    let n = node_count(file, net);
     let mut work = [0u16; 2048];
     let mut depth = push_order(file, net, &mut work);
     while 0 < depth {
-        let x = wide(number_at(&work, depth - 1));
-        depth = visit(file, net, bound, x, leads, &mut work, depth - 1);
+        depth = depth - 1;
+        let x = wide(number_at(&work, depth));
+        if n <= x {
+            continue;
+        }
+        if bound < wide(number_at(leads, x)) {
+            return;
+        }
+        put_number(&mut work, WAITING + x, 0);
+        if relax(file, net, bound, x, leads) == 0 {
+            continue;
+        }
+        depth = push_sources(file, net, x, &mut work, depth);
     }
 }

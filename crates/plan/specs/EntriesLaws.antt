@@ -7,12 +7,13 @@ use Prim.Native.Nat.{ℕ, zero, suc, _+_, _-_, _*_, _/_, _%_, _≤_, _<_, zero-l
 use native.Mathlib.Nat.{not-suc-le-zero, le-refl}
 use native.Mathlib.Omega.{arith}
 use lib.ListN.{length, getD, set, length-append, length-map, List·getD-append}
-use lib.Seq.{getD-append-add, getD-set-same, getD-set-other, getD-append-seam}
+use lib.Seq.{set-out, getD-append-add, getD-set-same, getD-set-other, getD-append-seam}
 use lib.Dec.{eqb, ltb}
 use borrow.Author.Tests.{eq-eqb, ne-eqb, lt-ltb, le-ltb}
-use Rattle.lists.specs.Lists.{below, concatMap, only, one, has, addNew, distinctFrom, distinct}
+use Rattle.lists.specs.Lists.{below, concatMap, only, has, addNew, distinctFrom, distinct}
 use Rattle.lists.specs.BelowLaws.{true-or-false, lt-or-le, getD-map-lt, lt-suc-split}
 use Rattle.lists.specs.ListsLaws.{getD-has}
+use Rattle.lists.specs.Sections.{section-length, section-put, section-before, section-after}
 use Rattle.netlist.specs.declared.Element.{Element}
 use Rattle.netlist.specs.declared.Element.the-variants.{Input, Output, Register, Async, Clocked, Gate}
 use Rattle.netlist.specs.Net.{Net, size, elementAt, source, operands, isRegister, isMemory}
@@ -24,7 +25,46 @@ use Rattle.lists.specs.Threes.{concat-next, concat-longer, inRow, row-of-three,
 use Rattle.wiring.specs.Wiring.{wiresTo, wireAt, WiredTo, Copied}
 use Rattle.wiring.specs.WiringLaws.{wires-few}
 use Rattle.wiring.specs.Links.{From}
+use Rattle.plan.specs.Areas.{ownersIn, wordsIn, lateIn, firstsIn}
 use Rattle.plan.specs.Entries.{Finds, Stored, Placing, Adds, wantedOf, Wants, AddsAll, entriesBefore, Firsts, AllPlaced}
+
+-- ---- words put in the plan's area
+
+-- an entry is put: at its number, and nothing where there is no room
+abbrev EntryPut : List ℕ → List ℕ → ℕ → ℕ → ℕ → Type 0
+EntryPut l k count u c = (ownersIn k ≡ set (ownersIn l) count u) × (wordsIn k ≡ set (wordsIn l) count c) × (lateIn k ≡ lateIn l) × (firstsIn k ≡ firstsIn l)
+
+pub entry-put : (l m k : List ℕ) (count u c : ℕ) → count < 1024 → m ≡ set l count u → k ≡ set m (1024 + count) c → EntryPut l k count u c
+entry-put l m k count u c h a b = (
+  ap (λ (w : List ℕ). ownersIn w) b ∙ section-after 0 1024 m (1024 + count) c (omega arith) ∙ ap (λ (w : List ℕ). ownersIn w) a ∙ ap (λ (i : ℕ). ownersIn (set l i u)) (let e : count ≡ 0 + count = omega arith in e) ∙ section-put 0 1024 l count u h,
+  ap (λ (w : List ℕ). wordsIn w) b ∙ section-put 1024 1024 m count c h ∙ ap (λ (w : List ℕ). set (wordsIn w) count c) a ∙ ap (λ (w : List ℕ). set w count c) (section-before 1024 1024 l count u (omega arith)),
+  ap (λ (w : List ℕ). lateIn w) b ∙ section-before 2048 1024 m (1024 + count) c (omega arith) ∙ ap (λ (w : List ℕ). lateIn w) a ∙ section-before 2048 1024 l count u (omega arith),
+  ap (λ (w : List ℕ). firstsIn w) b ∙ section-before 3072 1024 m (1024 + count) c (omega arith) ∙ ap (λ (w : List ℕ). firstsIn w) a ∙ section-before 3072 1024 l count u (omega arith),
+)
+
+pub entry-out : (l k : List ℕ) (count u c : ℕ) → length l ≡ 7168 → 1024 ≤ count → k ≡ l → EntryPut l k count u c
+entry-out l k count u c e h a = (
+  ap (λ (w : List ℕ). ownersIn w) a ∙ sym (set-out (ownersIn l) count u (omega (arith, section-length 0 1024 l (omega arith)))),
+  ap (λ (w : List ℕ). wordsIn w) a ∙ sym (set-out (wordsIn l) count c (omega (arith, section-length 1024 1024 l (omega arith)))),
+  ap (λ (w : List ℕ). lateIn w) a,
+  ap (λ (w : List ℕ). firstsIn w) a,
+)
+
+-- where the entries of a node begin
+pub first-put : (l m : List ℕ) (u x : ℕ) → u < 1024 → m ≡ set l (3072 + u) x → (ownersIn m ≡ ownersIn l) × (wordsIn m ≡ wordsIn l) × (lateIn m ≡ lateIn l) × (firstsIn m ≡ set (firstsIn l) u x)
+first-put l m u x h a = (
+  ap (λ (w : List ℕ). ownersIn w) a ∙ section-after 0 1024 l (3072 + u) x (omega arith),
+  ap (λ (w : List ℕ). wordsIn w) a ∙ section-after 1024 1024 l (3072 + u) x (omega arith),
+  ap (λ (w : List ℕ). lateIn w) a ∙ section-after 2048 1024 l (3072 + u) x (omega arith),
+  ap (λ (w : List ℕ). firstsIn w) a ∙ section-put 3072 1024 l u x h,
+)
+
+-- the sections of the entries have room for 1,024
+pub owners-room : (l : List ℕ) → length l ≡ 7168 → 1024 ≤ length (ownersIn l)
+owners-room l e = omega (arith, section-length 0 1024 l (omega arith))
+
+pub words-room : (l : List ℕ) → length l ≡ 7168 → 1024 ≤ length (wordsIn l)
+words-room l e = omega (arith, section-length 1024 1024 l (omega arith))
 
 -- ---- one entry more
 
@@ -103,14 +143,18 @@ module _ (pre : List Place) (u : ℕ) (d : List ℕ) where
       sym (ap wordOf (s (length pre + j) (omega (arith, so-far-length))))
       ∙ ap wordOf (getD-append-add pre (map (Entry u) d) j noPlace ∙ getD-map-lt (Entry u) d j 0 noPlace h)
 
+  longer : (c : ℕ) → length so-far ≤ length (pre ++ map (Entry u) (addNew c d))
+  longer c = omega (arith, so-far-length, length-append pre (map (Entry u) (addNew c d)), length-map (addNew c d) (Entry u), add-longer c d)
+
+  -- there are too many already
+  pub copy-over : {owners words : List ℕ} {count : ℕ} (c : ℕ) → 1024 < count → Placing owners words so-far count → Placing owners words (pre ++ map (Entry u) (addNew c d)) count
+  copy-over c o t = placing-over o (longer c) t
+
   module _ {owners words : List ℕ} {c first count r : ℕ} (e : first ≡ length pre) (f : Finds words c first count r) (t : Placing owners words so-far count) where
     -- the word is there already
     pub copy-there : r < count → Placing owners words (pre ++ map (Entry u) (addNew c d)) count
-    copy-there h = ⊎-elim (λ o. placing-over o (omega (arith, so-far-length, longer)) t) there (lt-or-le 1024 count)
+    copy-there h = ⊎-elim (λ o. copy-over c o t) there (lt-or-le 1024 count)
       where
-        longer : length so-far ≤ length (pre ++ map (Entry u) (addNew c d))
-        longer = omega (arith, so-far-length, length-append pre (map (Entry u) (addNew c d)), length-map (addNew c d) (Entry u), add-longer c d)
-
         there : count ≤ 1024 → Placing owners words (pre ++ map (Entry u) (addNew c d)) count
         there o = go (t .exact o)
           where
@@ -125,11 +169,8 @@ module _ (pre : List Place) (u : ℕ) (d : List ℕ) where
     -- or it is added
     module _ (a : 1024 ≤ length owners) (b : 1024 ≤ length words) where
       pub copy-added : count ≤ r → Placing (set owners count u) (set words count c) (pre ++ map (Entry u) (addNew c d)) (count + 1)
-      copy-added h = ⊎-elim (λ o. record { exact = λ k. absurd (omega arith); over = λ k. omega (arith, t .over o, longer) }) added (lt-or-le 1024 count)
+      copy-added h = ⊎-elim (λ o. record { exact = λ k. absurd (omega arith); over = λ k. omega (arith, t .over o, longer c) }) added (lt-or-le 1024 count)
         where
-          longer : length so-far ≤ length (pre ++ map (Entry u) (addNew c d))
-          longer = omega (arith, so-far-length, length-append pre (map (Entry u) (addNew c d)), length-map (addNew c d) (Entry u), add-longer c d)
-
           added : count ≤ 1024 → Placing (set owners count u) (set words count c) (pre ++ map (Entry u) (addNew c d)) (count + 1)
           added o = go (t .exact o)
             where

@@ -1,4 +1,4 @@
--- The plan of the rewritten netlist: what three work areas hold of each of its nodes. Assumes nothing.
+-- The plan of the rewritten netlist: what an area and the words hold of each of its nodes. Assumes nothing.
 use mathlib.Core.Path.{_≡_}
 use mathlib.Core.List.{List}
 use Prim.Native.Nat.{ℕ, suc, _+_, _*_, _≤_, _<_}
@@ -7,6 +7,8 @@ use Rattle.netlist.specs.Net.{Net, size, elementAt, source, operands}
 use Rattle.behaviour.specs.Run.{zeroWord}
 use Rattle.retiming.specs.Rewrite.{Place, Entry, Reg, resetWord, places, numberOf, along, timing}
 use Rattle.retiming.specs.Layout.{noPlace}
+use Rattle.plan.specs.Areas.{ownersIn, wordsIn, lateIn, sourcesIn}
+use Rattle.plan.specs.Registers.{entryCount, Laid}
 
 module _ (N : Net) (owners words sources : List ℕ) where
   -- of register i: the old node whose words and width it has, its reset word, and what it reads
@@ -25,7 +27,7 @@ module _ (N : Net) (owners words sources : List ℕ) where
         → getD sources (3 * i + p) 0 ≡ numberOf N (timing N) (zeroWord N) (along N (timing N) (zeroWord N) (getD owners i 0) (getD words i 0) p 0)
     pub register : (i : ℕ) → entries ≤ i → i < total → RegAt i (getD (places N (timing N) (zeroWord N)) i noPlace)
 
-  -- the plan, or it is known that there are too many nodes
-  pub record PlanMade (entries total : ℕ) : Type 0 where
-    pub exact : total ≤ 1024 → Planned entries total
-    pub over : 1024 < total → 1024 < length (places N (timing N) (zeroWord N))
+-- the plan's area holds all but the registers' reset words, or it is known that there are too many nodes
+pub record PlanLaid (N : Net) (plan : List ℕ) (entries total : ℕ) : Type 0 where
+  pub exact : total ≤ 1024 → (entries ≡ entryCount N) × (entryCount N ≤ 1024) × Laid N (ownersIn plan) (wordsIn plan) (lateIn plan) (sourcesIn plan) (3 * entryCount N) total
+  pub over : 1024 < total → 1024 < length (places N (timing N) (zeroWord N))

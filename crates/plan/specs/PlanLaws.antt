@@ -1,15 +1,15 @@
 -- From the work areas of each step to the plan. Assumes nothing.
-use mathlib.Core.Path.{_≡_, sym, ap, ap₂, subst, _∙_}
+use mathlib.Core.Path.{_≡_, refl, sym, ap, ap₂, subst, _∙_}
 use mathlib.Core.Logic.{⊎-elim}
 use mathlib.Core.Bool.{Bool, true, false, cond}
 use mathlib.Core.List.{List}
-use Prim.Native.Nat.{ℕ, zero, _+_, _-_, _*_, _/_, _%_, _≤_, _<_, zero-le}
+use Prim.Native.Nat.{ℕ, _+_, _-_, _*_, _/_, _%_, _≤_, _<_, zero-le}
 use native.Mathlib.Nat.{not-suc-le-zero}
 use native.Mathlib.Omega.{arith}
 use lib.ListN.{length, getD, replicate, length-append, getD-replicate, List·getD-append}
 use lib.Seq.{getD-append-add}
-use lib.Dec.{ltb}
-use borrow.Author.Tests.{lt-ltb, le-ltb}
+use borrow.Author.Tests.{le-ltb}
+use Rattle.lists.specs.Sections.{section-length, section-replicate}
 use Rattle.lists.specs.BelowLaws.{true-or-false, lt-or-le}
 use Rattle.netlist.specs.Net.{Net, size, elementAt, source, operands, Sourced}
 use Rattle.netlist.specs.NodeLaws.{few-operands}
@@ -18,13 +18,16 @@ use Rattle.retiming.specs.Leads.{lead}
 use Rattle.retiming.specs.Rewrite.{Place, Entry, Reg, root, memoryAt, countOn, copyOn, wordFrom, resetWord, entryPlaces, regPlaces, places, numberOf, along, timing, timingBy}
 use Rattle.retiming.specs.Layout.{noPlace, Sound, places-sound}
 use Rattle.first_clocks.specs.Wanted.{OfNodes, Taken}
-use Rattle.wiring.specs.Wiring.{Ready, countFrom, count-from, wiresTo, sourceOf, wireAt, lastClock, Wired, WiredTo, Copied}
-use Rattle.wiring.specs.WiringLaws.{wire-inside}
+use Rattle.wires.specs.Traced.{rootsIn, passesIn}
+use Rattle.wiring.specs.Wiring.{Ready, Timed, endsIn, fromsIn, clocksIn, headsIn, Entered, count-from, sourceOf, wireAt, lastClock, Wired, WiredTo, Copied}
+use Rattle.wiring.specs.WiringLaws.{wire-inside, lead-few, counted, count-few, wired-none, wired-as}
+use Rattle.wiring.specs.Links.{LinkedFrom, RomsLinked, linked-none, linked-as, roms-linked}
 use Rattle.plan.specs.Entries.{Wants, AllPlaced}
 use Rattle.plan.specs.EntriesLaws.{all-wanted}
 use Rattle.plan.specs.Registers.{entryCount, entryAt, wiresBefore, Planning, RegHeld, HeadHeld, Laid, AllLaid}
-use Rattle.plan.specs.RegistersRow.{regs-in-row, wires-all, reader-stands}
-use Rattle.plan.specs.Plan.{RegAt, PlanMade}
+use Rattle.plan.specs.RegistersRow.{regs-in-row, reader-stands}
+use Rattle.plan.specs.Areas.{ownersIn, wordsIn, lateIn, firstsIn, sourcesIn}
+use Rattle.plan.specs.Plan.{RegAt, Planned, PlanLaid}
 
 -- a reset word is a word of the run
 reset-is : (N : Net) (x p j : ℕ) → resetWord N (timing N) (zeroWord N) x p j ≡ zeroWord N (j + lead N x) (source N x p)
@@ -99,27 +102,64 @@ module _ {N : Net} {leads roots passes ends froms clocks : List ℕ} (ready : Re
       ahead = λ i l b. ap (λ (s : List ℕ). getD s i 0) e ∙ getD-replicate 1024 i 65535 0 b;
     }
 
-  -- the wire of a register is among those entered, and its clock is one
-  early-enough : (x c p j : ℕ) → Sound N (timing N) (zeroWord N) (Reg x c p j) → j + lead N x < 65535
-  unfolding wireAt lastClock
-  early-enough x c p j (s, o, l) =
-      let k : ℕ = 3 * x + p in
-      let three = few-operands (elementAt N x) in
-      let a : k / 3 ≡ x = omega arith in
-      let b : k % 3 ≡ p = omega arith in
-      let g : wireAt N k ≡ true = ap₂ (λ (i q : ℕ). ltb i (wiresTo (elementAt N q))) b a ∙ lt-ltb p (wiresTo (elementAt N x)) (omega (arith, wires-all (elementAt N x) (s .other))) in
-      let e : lastClock N k ≡ countOn N (timing N) (zeroWord N) x p + lead N x = ap₂ (λ (i q : ℕ). countFrom N i (source N i q) + lead N i) a b ∙ ap (λ (n : ℕ). n + lead N x) (sym (count-from N x p)) in
-      omega (arith, w .wires k (omega (arith, s .inside)) g .early)
+-- ---- the wires in their area, and the entries in the plan's
 
-  -- ---- the registers, and all
+-- at first there is none
+pub entered-none : (N : Net) (l : List ℕ) {n : ℕ} → l ≡ replicate n 65535 → 10240 ≤ n → Entered N l 0
+entered-none N l {n} e h = wired-as
+    (ap (λ (y : List ℕ). endsIn y) e ∙ section-replicate 0 3072 n 65535 (omega arith)) refl
+    (ap (λ (y : List ℕ). clocksIn y) e ∙ section-replicate 6144 3072 n 65535 (omega arith)) (wired-none N (fromsIn l))
+
+-- and none is linked
+pub linked-first : (l l₀ : List ℕ) {n count : ℕ} → headsIn l ≡ headsIn l₀ → l₀ ≡ replicate n 65535 → 10240 ≤ n → count ≤ 3072 → LinkedFrom (endsIn l) (clocksIn l) count (headsIn l) (clocksIn l) count
+linked-first l l₀ {n} {count} same e h few =
+    subst (λ (y : List ℕ). LinkedFrom (endsIn l) (clocksIn l) count y (clocksIn l) count) (sym (same ∙ ap (λ (y : List ℕ). headsIn y) e ∙ section-replicate 9216 1024 n 65535 (omega arith)))
+    (linked-none (endsIn l) (clocksIn l) count few)
+
+module _ {N : Net} {timing : List ℕ} (wires : List ℕ) (ready : Timed N timing) (w : Entered N wires (3 * size N)) (long : length wires ≡ 10240) where
+  clocks-length : length (clocksIn wires) ≡ 3072
+  clocks-length = section-length 6144 3072 wires (omega arith)
+
+  pub clocks-of-nodes : OfNodes N (clocksIn wires) (fromsIn wires)
+  clocks-of-nodes = wires-of-nodes ready w clocks-length
+
+  -- the links stand in their area, and the wires end where they did
+  module _ (links : List ℕ) (same : endsIn links ≡ endsIn wires) where
+    pub links-made : {count : ℕ} → count ≡ 3 * size N → LinkedFrom (endsIn wires) (clocksIn wires) count (headsIn links) (clocksIn links) 0 → RomsLinked N (endsIn links) (headsIn links) (clocksIn links)
+    links-made e l = subst (λ (y : List ℕ). RomsLinked N y (headsIn links) (clocksIn links)) (sym same) (roms-linked w (ready .formed .fields .bounds .nodes) (linked-as e l))
+
+    module _ {copied : List ℕ} (t : Taken N (clocksIn wires) (fromsIn wires) (replicate 3072 0) copied) where
+      pub wants-linked : Wants N (endsIn links) copied
+      wants-linked = subst (λ (y : List ℕ). Wants N y copied) (sym same) (wants-taken ready w clocks-length t)
+
+      pub planning-linked : (plan : List ℕ) {entries : ℕ} → AllPlaced N (ownersIn plan) (wordsIn plan) (firstsIn plan) entries → entries ≤ 1024
+          → Planning N timing (rootsIn timing) (passesIn timing) (endsIn links) copied (firstsIn plan)
+      planning-linked plan placed few =
+          subst (λ (y : List ℕ). Planning N timing (rootsIn timing) (passesIn timing) y copied (firstsIn plan)) (sym same) (planning ready w placed few clocks-length t)
+
+  -- no register has a clock yet
+  pub laid-filled : (plan filled : List ℕ) {entries n : ℕ} → AllPlaced N (ownersIn plan) (wordsIn plan) (firstsIn plan) entries → entries ≤ 1024 → lateIn plan ≡ lateIn filled → filled ≡ replicate n 65535 → n ≡ 7168
+      → Laid N (ownersIn plan) (wordsIn plan) (lateIn plan) (sourcesIn plan) 0 entries
+  laid-filled plan filled {entries} {n} placed few late e h =
+      laid-first ready w placed few (sourcesIn plan) (late ∙ ap (λ (y : List ℕ). lateIn y) e ∙ section-replicate 2048 1024 n 65535 (omega arith))
+
+-- ---- the registers, and all
+
+places-length : (N : Net) → length (places N (timing N) (zeroWord N)) ≡ entryCount N + length (wiresBefore N (3 * entryCount N))
+unfolding places
+places-length N = length-append (entryPlaces N (timing N) (zeroWord N)) (regPlaces N (timing N) (zeroWord N)) ∙ ap (λ (l : List Place). entryCount N + length l) (regs-in-row N)
+
+module _ {N : Net} {leads roots passes : List ℕ} (ready : Ready N leads roots passes) where
+  -- the clock of a register is one
+  early-enough : (x c p j : ℕ) → Sound N (timing N) (zeroWord N) (Reg x c p j) → j + lead N x < 65535
+  unfolding Sourced
+  early-enough x c p j (s, o, l) =
+      let h : source N x p < size N = ready .formed .sourced x p (s .inside) o in
+      omega (arith, count-from N x p, counted ready h refl (s .inside), count-few ready h refl (s .inside), lead-few ready x (s .inside), ready .leads-in x (s .inside))
 
   module _ {owners words late sources : List ℕ} {total : ℕ} (d : Laid N owners words late sources (3 * entryCount N) total) (few : total ≤ 1024) where
     all : List Place
     all = places N (timing N) (zeroWord N)
-
-    all-length : length all ≡ entryCount N + length (wiresBefore N (3 * entryCount N))
-    unfolding all places
-    all-length = length-append (entryPlaces N (timing N) (zeroWord N)) (regPlaces N (timing N) (zeroWord N)) ∙ ap (λ (l : List Place). entryCount N + length l) (regs-in-row N)
 
     entry-at : (i : ℕ) → i < entryCount N → getD all i noPlace ≡ Entry (getD owners i 0) (getD words i 0)
     unfolding all places
@@ -135,7 +175,7 @@ module _ {N : Net} {leads roots passes ends froms clocks : List ℕ} (ready : Re
     reg-held i h l =
         let k : ℕ = i - entryCount N in
         let e : entryCount N + k ≡ i = omega arith in
-        (subst (λ (n : ℕ). RegHeld N owners words late sources n (getD all n noPlace)) e (subst (RegHeld N owners words late sources (entryCount N + k)) (sym (reg-at k)) (d .regs k (omega (arith, d .count)) (omega arith))), places-sound N (timing N) (zeroWord N) i (omega (arith, all-length, d .count)))
+        (subst (λ (n : ℕ). RegHeld N owners words late sources n (getD all n noPlace)) e (subst (RegHeld N owners words late sources (entryCount N + k)) (sym (reg-at k)) (d .regs k (omega (arith, d .count)) (omega arith))), places-sound N (timing N) (zeroWord N) i (omega (arith, places-length N, d .count)))
 
     reg-source : (i : ℕ) (pl : Place) → RegHeld N owners words late sources i pl × Sound N (timing N) (zeroWord N) pl → getD owners i 0 < size N
     unfolding Sourced
@@ -168,29 +208,31 @@ module _ {N : Net} {leads roots passes ends froms clocks : List ℕ} (ready : Re
       entry-inside : (i : ℕ) → i < entryCount N → getD owners i 0 < size N
       entry-inside i h = reader-stands N owners words (d .held) i h .inside
 
-      pub plan-made : {entries : ℕ} → entries ≡ entryCount N → PlanMade N owners made sources entries total
+      pub planned : {entries : ℕ} → entries ≡ entryCount N → Planned N owners made sources entries total
       unfolding all
-      plan-made e = record {
-        exact = λ o. record {
-          first = omega (arith, d .count);
-          count = omega (arith, all-length, d .count);
-          inside = λ i h. ⊎-elim (entry-inside i) (λ y. reg-source i (getD all i noPlace) (reg-held i y h)) (lt-or-le i (entryCount N));
-          entry = λ i h. entry-at i (omega arith) ∙ ap (Entry (getD owners i 0)) (sym (word-stays i (omega arith)));
-          reads = λ i p h. entry-reads i p (omega arith);
-          register = λ i h l. reg-holds i l (getD all i noPlace) (reg-held i (omega arith) l);
-        };
-        over = λ o. absurd (omega arith);
+      planned e = record {
+        first = omega (arith, d .count);
+        count = omega (arith, places-length N, d .count);
+        inside = λ i h. ⊎-elim (entry-inside i) (λ y. reg-source i (getD all i noPlace) (reg-held i y h)) (lt-or-le i (entryCount N));
+        entry = λ i h. entry-at i (omega arith) ∙ ap (Entry (getD owners i 0)) (sym (word-stays i (omega arith)));
+        reads = λ i p h. entry-reads i p (omega arith);
+        register = λ i h l. reg-holds i l (getD all i noPlace) (reg-held i (omega arith) l);
       }
 
--- ---- too many nodes
+-- ---- the plan's area
 
-module _ (N : Net) where
-  places-length : length (places N (timing N) (zeroWord N)) ≡ entryCount N + length (wiresBefore N (3 * entryCount N))
-  unfolding places
-  places-length = length-append (entryPlaces N (timing N) (zeroWord N)) (regPlaces N (timing N) (zeroWord N)) ∙ ap (λ (l : List Place). entryCount N + length l) (regs-in-row N)
+module _ (N : Net) (plan : List ℕ) where
+  pub plan-laid : {entries total : ℕ} → entries ≡ entryCount N → entries ≤ 1024 → AllLaid N (ownersIn plan) (wordsIn plan) (lateIn plan) (sourcesIn plan) total → PlanLaid N plan entries total
+  plan-laid e h p = record { exact = λ o. (e, omega arith, p .exact o); over = λ o. omega (arith, p .over o, places-length N) }
 
-  pub many-entries : {owners words firsts owners′ words′ sources : List ℕ} {entries : ℕ} → AllPlaced N owners words firsts entries → 1024 < entries → PlanMade N owners′ words′ sources entries entries
-  many-entries p h = record { exact = λ o. absurd (omega arith); over = λ o. omega (arith, p .over h, places-length) }
+  pub many-entries : {owners words firsts : List ℕ} {entries : ℕ} → AllPlaced N owners words firsts entries → 1024 < entries → PlanLaid N plan entries entries
+  many-entries p h = record { exact = λ o. absurd (omega arith); over = λ o. omega (arith, p .over h, places-length N) }
 
-  pub many-registers : {owners words late sources owners′ words′ sources′ : List ℕ} {entries total : ℕ} → AllLaid N owners words late sources total → 1024 < total → PlanMade N owners′ words′ sources′ entries total
-  many-registers p h = record { exact = λ o. absurd (omega arith); over = λ o. omega (arith, p .over h, places-length) }
+-- and the registers' reset words are taken
+module _ {N : Net} {timing : List ℕ} (plan : List ℕ) (ready : Timed N timing) {entries total : ℕ} (p : PlanLaid N plan entries total) (few : total ≤ 1024) (long : length plan ≡ 7168) where
+  pub late-of-nodes : OfNodes N (lateIn plan) (ownersIn plan)
+  late-of-nodes = registers-of-nodes ready (p .exact few .2) few (section-length 2048 1024 plan (omega arith))
+
+  pub reset-planned : (found made : List ℕ) → found ≡ wordsIn plan → Taken N (lateIn plan) (ownersIn plan) found made → Planned N (ownersIn plan) made (sourcesIn plan) entries total
+  reset-planned found made e t =
+      planned ready (p .exact few .2) few (section-length 2048 1024 plan (omega arith)) (subst (λ (y : List ℕ). Taken N (lateIn plan) (ownersIn plan) y made) e t) (p .exact few .0)

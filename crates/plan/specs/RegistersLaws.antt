@@ -11,6 +11,7 @@ use lib.Seq.{getD-append-add, getD-set-same, getD-set-other}
 use lib.Dec.{ltb}
 use borrow.Author.Tests.{lt-ltb, ltb-true}
 use Rattle.lists.specs.Lists.{has}
+use Rattle.lists.specs.Sections.{section-length, section-read}
 use Rattle.lists.specs.BelowLaws.{true-or-false, lt-or-le, lt-suc-split, length-listed, getD-listed}
 use Rattle.netlist.specs.Net.{Net, size, elementAt, source, operands, Sourced}
 use Rattle.behaviour.specs.Run.{zeroWord}
@@ -19,9 +20,12 @@ use Rattle.retiming.specs.Rewrite.{Place, Entry, Reg, root, countOn, copyOn, co
 use Rattle.retiming.specs.Layout.{noPlace, Stands, stays-if, copy-on, along-reg, along-end}
 use Rattle.retiming.specs.Wires.{Rooted, ringless-rooted, root-within}
 use Rattle.lists.specs.Threes.{concat-longer}
-use Rattle.wiring.specs.Wiring.{countFrom, count-from, wiresTo, sourceOf, wireAt}
+use Rattle.wires.specs.Traced.{rootsIn, passesIn}
+use Rattle.wiring.specs.Wiring.{endsIn, countFrom, count-from, wiresTo, sourceOf, wireAt}
+use Rattle.plan.specs.Areas.{ownersIn, wordsIn, lateIn, firstsIn, sourcesIn}
 use Rattle.plan.specs.Entries.{Finds, Stored, entriesBefore}
 use Rattle.plan.specs.Registers.{behind, PutsRegisters, entryCount, entryAt, wireOf, wiresBefore, Planning, HeadHeld, RegHeld, Laid, AllLaid}
+use Rattle.plan.specs.RegistersPut.{source-put, puts-as}
 use Rattle.plan.specs.RegistersRow.{wires-next, reg-number, entry-number, entries-few, reader-stands, wires-all}
 
 -- ---- one wire more
@@ -242,7 +246,65 @@ module _ {N : Net} {leads roots passes ends copied firsts : List ℕ} (t : Plann
                 ahead = λ j l b. q .late-after j l ∙ d .ahead j (omega arith) b;
               }
 
+-- ---- the same in the areas, as the code reads and puts them
+
+laid-as : {N : Net} {o o′ w w′ l l′ s s′ : List ℕ} {m total : ℕ} → o′ ≡ o → w′ ≡ w → l′ ≡ l → s′ ≡ s → Laid N o w l s m total → Laid N o′ w′ l′ s′ m total
+laid-as {N} {o} {o′} {w} {w′} {l} {l′} {s} {s′} {m} {total} a b c e d =
+    subst (λ (y : List ℕ). Laid N y w′ l′ s′ m total) (sym a) (subst (λ (y : List ℕ). Laid N o y l′ s′ m total) (sym b)
+    (subst (λ (y : List ℕ). Laid N o w y s′ m total) (sym c) (subst (λ (y : List ℕ). Laid N o w l y m total) (sym e) d)))
+
+module _ {N : Net} {timing copied : List ℕ} (wires plan : List ℕ) (t : Planning N timing (rootsIn timing) (passesIn timing) (endsIn wires) copied (firstsIn plan)) {m total : ℕ}
+    (d : Laid N (ownersIn plan) (wordsIn plan) (lateIn plan) (sourcesIn plan) m total) (h : m < 3 * entryCount N) {x : ℕ} (xe : x ≡ getD plan (m / 3) 0) where
+  reader-is : x ≡ getD (ownersIn plan) (m / 3) 0
+  reader-is = xe ∙ ap (λ (i : ℕ). getD plan i 0) (let e : m / 3 ≡ 0 + m / 3 = omega arith in e) ∙ sym (section-read 0 1024 plan (m / 3) (omega (arith, t .few)))
+
+  pub reader-inside : x < size N
+  reader-inside = omega (arith, reader-is, reader-here t d h .inside)
+
+  wire-is : 3 * x + m % 3 ≡ 3 * getD (ownersIn plan) (m / 3) 0 + m % 3
+  wire-is = ap (λ (v : ℕ). 3 * v + m % 3) reader-is
+
+  module _ {end : ℕ} (ee : end ≡ getD wires (0 + (3 * x + m % 3)) 0) where
+    end-read : end ≡ getD (endsIn wires) (3 * x + m % 3) 0
+    end-read = ee ∙ sym (section-read 0 3072 wires (3 * x + m % 3) (omega (arith, wire-within t d h wire-is, t .ready .formed .fields .bounds .nodes)))
+
+    pub none-laid : end ≡ 65535 → Laid N (ownersIn plan) (wordsIn plan) (lateIn plan) (sourcesIn plan) (m + 1) total
+    none-laid e = laid-none t d h wire-is (sym end-read ∙ e)
+
+    module _ (one : end ≡ 65535 → ⊥) {s : ℕ} (se : s ≡ source N x (m % 3)) where
+      there : getD (endsIn wires) (3 * x + m % 3) 0 ≡ 65535 → ⊥
+      there e = one (end-read ∙ e)
+
+      source-is : s ≡ source N (getD (ownersIn plan) (m / 3) 0) (m % 3)
+      source-is = se ∙ ap (λ (v : ℕ). source N v (m % 3)) reader-is
+
+      pub source-within : s < size N
+      source-within = omega (arith, source-is, source-inside t d h wire-is there)
+
+      module _ {c first u : ℕ} (ce : c ≡ getD copied (3 * x + m % 3) 0) (ue : u ≡ end) (fe : first ≡ getD plan (3072 + u) 0) where
+        first-read : first ≡ getD (firstsIn plan) (getD (endsIn wires) (3 * x + m % 3) 0) 0
+        first-read = fe
+            ∙ sym (section-read 3072 1024 plan u (omega (arith, end-read, end-is t d h wire-is there, end-inside t d h wire-is there, t .ready .formed .fields .bounds .nodes)))
+            ∙ ap (λ (i : ℕ). getD (firstsIn plan) i 0) (ue ∙ end-read)
+
+        pub first-small : first ≤ entryCount N
+        first-small = first-few t d h wire-is there ce first-read
+
+        pub wire-laid : {entries r count lead-x head : ℕ} (put last : List ℕ) → entries ≡ entryCount N → Finds (wordsIn plan) c first entries r → count ≡ countFrom N x s → lead-x ≡ getD timing x 0
+            → PutsRegisters s r lead-x count total (ownersIn plan) (lateIn plan) (sourcesIn plan) (ownersIn put) (lateIn put) (sourcesIn put) × (wordsIn put ≡ wordsIn plan) × (firstsIn put ≡ firstsIn plan)
+            → length put ≡ 7168 → last ≡ set put (4096 + m) head → head ≡ behind r total count
+            → Laid N (ownersIn last) (wordsIn last) (lateIn last) (sourcesIn last) (m + 1) (total + count) × (firstsIn last ≡ firstsIn plan)
+        wire-laid {entries} {r} {count} {lead-x} {head} put last ne f ke le (q, we, be) long pe he =
+            let z = source-put put last m head (omega (arith, t .few)) pe in
+            let found : Finds (wordsIn plan) c first (entryCount N) r = subst (λ (n : ℕ). Finds (wordsIn plan) c first n r) ne f in
+            let counted : count ≡ countFrom N (getD (ownersIn plan) (m / 3) 0) (source N (getD (ownersIn plan) (m / 3) 0) (m % 3)) = ke ∙ ap₂ (countFrom N) reader-is source-is in
+            let leads : lead-x ≡ lead N (getD (ownersIn plan) (m / 3) 0) = le ∙ t .ready .leads-in x reader-inside ∙ ap (lead N) reader-is in
+            (laid-as (z .1) (z .2 ∙ we) (z .3) refl (laid-more t d h wire-is there ce first-read found counted leads (puts-as source-is q) (z .0) he (section-length 4096 3072 put (omega arith))), z .4 ∙ be)
+
 -- ---- all wires
+
+pub planning-as : {N : Net} {leads roots passes ends copied f f′ : List ℕ} → f′ ≡ f → Planning N leads roots passes ends copied f → Planning N leads roots passes ends copied f′
+planning-as {N} {leads} {roots} {passes} {ends} {copied} e t = subst (Planning N leads roots passes ends copied) (sym e) t
 
 module _ (N : Net) {owners words late sources : List ℕ} {m total : ℕ} (d : Laid N owners words late sources m total) where
   pub laid-over : m ≤ 3 * entryCount N → 1024 < total → AllLaid N owners words late sources total

@@ -2,13 +2,15 @@
 use mathlib.Core.Path.{_≡_, refl, sym, ap, subst, _∙_}
 use mathlib.Core.Logic.{⊎-elim}
 use mathlib.Core.List.{List}
-use Prim.Native.Nat.{ℕ, zero, suc, _+_, _-_, _*_, _<_}
+use Prim.Native.Nat.{ℕ, zero, suc, _+_, _-_, _*_, _≤_, _<_}
 use native.Mathlib.Nat.{not-suc-le-zero}
 use native.Mathlib.Omega.{arith}
 use lib.ListN.{length, getD, set}
-use lib.Seq.{getD-set-same, getD-set-other}
+use lib.Seq.{getD-set-same, getD-set-other, set-out}
 use Rattle.lists.specs.BelowLaws.{lt-suc-split}
+use Rattle.lists.specs.Sections.{section, section-length, section-put, section-before, section-after}
 use Rattle.retiming.specs.Leads.{lead}
+use Rattle.plan.specs.Areas.{ownersIn, wordsIn, lateIn, firstsIn, sourcesIn}
 use Rattle.plan.specs.Registers.{behind, PutsTo}
 
 module _ {s from lead count start : ℕ} {owners late sources : List ℕ} where
@@ -58,3 +60,52 @@ behind-last from start (suc t) h = omega arith
 
 pub puts-as : {s s′ from lead count start done : ℕ} {o l r o′ l′ r′ : List ℕ} → s ≡ s′ → PutsTo s from lead count start done o l r o′ l′ r′ → PutsTo s′ from lead count start done o l r o′ l′ r′
 puts-as {s} {s′} {from} {lead} {count} {start} {done} {o} {l} {r} {o′} {l′} {r′} e t = subst (λ (v : ℕ). PutsTo v from lead count start done o l r o′ l′ r′) e t
+
+-- ---- in the plan's area
+
+-- a register is put, and what the others hold stays
+abbrev pub RegisterPut : (l n : List ℕ) (r s clock before : ℕ) → Type 0
+RegisterPut l n r s clock before =
+    (ownersIn n ≡ set (ownersIn l) r s) × (lateIn n ≡ set (lateIn l) r clock) × (sourcesIn n ≡ set (sourcesIn l) (3 * r) before) × (wordsIn n ≡ wordsIn l) × (firstsIn n ≡ firstsIn l)
+
+pub register-put : (l m k n : List ℕ) (r s clock before : ℕ) → r < 1024 → m ≡ set l r s → k ≡ set m (2048 + r) clock → n ≡ set k (4096 + 3 * r) before → RegisterPut l n r s clock before
+register-put l m k n r s clock before h a b c = (
+  ap (λ (w : List ℕ). ownersIn w) c ∙ section-after 0 1024 k (4096 + 3 * r) before (omega arith) ∙ ap (λ (w : List ℕ). ownersIn w) b ∙ section-after 0 1024 m (2048 + r) clock (omega arith)
+      ∙ ap (λ (w : List ℕ). ownersIn w) a ∙ ap (λ (i : ℕ). section 0 1024 (set l i s)) (let e : r ≡ 0 + r = omega arith in e) ∙ section-put 0 1024 l r s h,
+  ap (λ (w : List ℕ). lateIn w) c ∙ section-after 2048 1024 k (4096 + 3 * r) before (omega arith) ∙ ap (λ (w : List ℕ). lateIn w) b ∙ section-put 2048 1024 m r clock h
+      ∙ ap (λ (w : List ℕ). set (lateIn w) r clock) a ∙ ap (λ (w : List ℕ). set w r clock) (section-before 2048 1024 l r s (omega arith)),
+  ap (λ (w : List ℕ). sourcesIn w) c ∙ section-put 4096 3072 k (3 * r) before (omega arith) ∙ ap (λ (w : List ℕ). set (sourcesIn w) (3 * r) before) b
+      ∙ ap (λ (w : List ℕ). set w (3 * r) before) (section-before 4096 3072 m (2048 + r) clock (omega arith) ∙ ap (λ (w : List ℕ). sourcesIn w) a ∙ section-before 4096 3072 l r s (omega arith)),
+  ap (λ (w : List ℕ). wordsIn w) c ∙ section-after 1024 1024 k (4096 + 3 * r) before (omega arith) ∙ ap (λ (w : List ℕ). wordsIn w) b ∙ section-after 1024 1024 m (2048 + r) clock (omega arith)
+      ∙ ap (λ (w : List ℕ). wordsIn w) a ∙ section-before 1024 1024 l r s (omega arith),
+  ap (λ (w : List ℕ). firstsIn w) c ∙ section-after 3072 1024 k (4096 + 3 * r) before (omega arith) ∙ ap (λ (w : List ℕ). firstsIn w) b ∙ section-before 3072 1024 m (2048 + r) clock (omega arith)
+      ∙ ap (λ (w : List ℕ). firstsIn w) a ∙ section-before 3072 1024 l r s (omega arith),
+)
+
+-- there is no room for it
+pub register-past : (l : List ℕ) (r s clock before : ℕ) → 1024 ≤ r → length l ≡ 7168 → RegisterPut l l r s clock before
+register-past l r s clock before h long = (
+  sym (set-out (ownersIn l) r s (omega (arith, section-length 0 1024 l (omega arith)))),
+  sym (set-out (lateIn l) r clock (omega (arith, section-length 2048 1024 l (omega arith)))),
+  sym (set-out (sourcesIn l) (3 * r) before (omega (arith, section-length 4096 3072 l (omega arith)))),
+  refl,
+  refl,
+)
+
+-- what an entry reads is put
+pub source-put : (l n : List ℕ) (m x : ℕ) → m < 3072 → n ≡ set l (4096 + m) x
+    → (sourcesIn n ≡ set (sourcesIn l) m x) × (ownersIn n ≡ ownersIn l) × (wordsIn n ≡ wordsIn l) × (lateIn n ≡ lateIn l) × (firstsIn n ≡ firstsIn l)
+source-put l n m x h c = (
+  ap (λ (w : List ℕ). sourcesIn w) c ∙ section-put 4096 3072 l m x h,
+  ap (λ (w : List ℕ). ownersIn w) c ∙ section-after 0 1024 l (4096 + m) x (omega arith),
+  ap (λ (w : List ℕ). wordsIn w) c ∙ section-after 1024 1024 l (4096 + m) x (omega arith),
+  ap (λ (w : List ℕ). lateIn w) c ∙ section-after 2048 1024 l (4096 + m) x (omega arith),
+  ap (λ (w : List ℕ). firstsIn w) c ∙ section-after 3072 1024 l (4096 + m) x (omega arith),
+)
+
+-- one register more
+pub puts-next : (l₀ l n : List ℕ) {s from lead count start done r clock before : ℕ} → PutsTo s from lead count start done (ownersIn l₀) (lateIn l₀) (sourcesIn l₀) (ownersIn l) (lateIn l) (sourcesIn l)
+    → length l ≡ 7168 → r ≡ start + done → clock ≡ lead + (count - suc done) → before ≡ behind from start done → RegisterPut l n r s clock before
+    → PutsTo s from lead count start (done + 1) (ownersIn l₀) (lateIn l₀) (sourcesIn l₀) (ownersIn n) (lateIn n) (sourcesIn n)
+puts-next l₀ l n t long re ce be p =
+    puts-more t (section-length 0 1024 l (omega arith)) (section-length 2048 1024 l (omega arith)) (section-length 4096 3072 l (omega arith)) re ce be (p .0) (p .1) (p .2)

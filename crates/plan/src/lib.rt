@@ -2,23 +2,47 @@
 mod entries;
 mod registers;
 
+use areas::copy;
 use areas::fill;
 use circuit::node_count;
 use entries::place_entries;
-use first_clocks::first_clock;
 use first_clocks::first_words;
 use registers::lay_wires;
+use wires::PASSES;
+use wires::ROOTS;
+use wires::TIMING;
+use wiring::CLOCKS;
+use wiring::FROMS;
+use wiring::HEADS;
+use wiring::WIRES;
 use wiring::enter_wires;
 use wiring::links::link_wires;
 ghost use mathlib.Core.Path.{_≡_};
+ghost use Prim.Native.Nat.{_*_, _≤_};
 ghost use lib.ListN.{length};
-ghost use Rattle.netlist.specs.Net.{Net, inClock};
+ghost use Rattle.netlist.specs.Net.{Net, size, inClock};
 ghost use Rattle.circuit.specs.Circuit.{orderOf};
 ghost use Rattle.circuit.specs.Opened.{opened};
 ghost use Rattle.circuit.specs.Order.{Complete};
 ghost use Rattle.evaluate.specs.Clock.{Inside};
-ghost use Rattle.wiring.specs.Wiring.{Ready};
-ghost use Rattle.plan.specs.Plan.{PlanMade};
+ghost use Rattle.first_clocks.specs.Wanted.{WordsAt, Taken};
+ghost use Rattle.wiring.specs.Wiring.{Timed, fromsIn, clocksIn, Entered};
+ghost use Rattle.plan.specs.Areas.{ownersIn, sourcesIn};
+ghost use Rattle.plan.specs.Plan.{Planned, PlanLaid};
+
+// The plan's area. Of each node of the rewritten netlist the old node whose width it has, the word of an entry, and the clock of a register's reset word;
+// where the entries of each old node begin; and what each node reads, three places to a node.
+const OWNERS: usize = 0;
+
+const WORDS: usize = 1024;
+
+const LATE: usize = 2048;
+
+const FIRSTS: usize = 3072;
+
+pub const SOURCES: usize = 4096;
+
+pub const PLAN: usize = 7168;
 
 // How many nodes come before the registers, and how many there are.
 pub struct Plan {
@@ -26,89 +50,82 @@ pub struct Plan {
     pub total: usize,
 }
 
-// Plans the rewritten netlist: for each of its nodes the old node whose width it has, its reset word, and what it reads, three places to a node.
-// Where it has more than 1,024 nodes nothing is said of the work areas.
-pub fn make_plan(
+// The words that the roots of the wires need as reset words.
+fn copied_words(
     file: &[u8],
     net: &[u16],
-    leads: &[u16],
-    roots: &[u16],
-    passes: &[u16],
-    owners: &mut [u16],
-    words: &mut [u16],
-    sources: &mut [u16],
-) -> Plan
+    timing: &[u16],
+    start: &[u16],
+    wires: &[u16],
+    copied: &mut [u16],
+)
     ghost { Net }
-    requires { λ N. opened 𝓤 (now file) (now net) N (Ready N (now leads) (now roots) (now passes) × Inside N × Complete inClock N (orderOf (now net))
-        × (length (now owners) ≡ 1024) × (length (now words) ≡ 1024) × (length (now sources) ≡ 3072)) }
-    ensures { λ N r. ⌜ PlanMade N (now (owners .exit)) (now (words .exit)) (now (sources .exit)) (r .entries) (r .total) ⌝ }
+    requires { λ N. opened 𝓤 (now file) (now net) N (Timed N (now timing) × (length (now timing) ≡ 3072) × Inside N × Complete inClock N (orderOf (now net))
+        × WordsAt N 0 (now start) × (length (now start) ≡ 1024) × (length (now wires) ≡ 10240) × Entered N (now wires) (3 * size N) × (length (now copied) ≡ 3072)) }
+    ensures { λ N _. ⌜ Taken N (clocksIn (now (wires .entry))) (fromsIn (now (wires .entry))) (now (copied .entry)) (now (copied .exit)) ⌝ }
 {
-    let mut ends = [65535u16; 3072];
-    let mut clocks = [65535u16; 3072];
-    let mut copied = [0u16; 3072];
-    let mut firsts = [0u16; 1024];
-    // The stack is short: work areas serve twice. The old sources stand where the new ones will.
-    enter_wires(
-        file,
-        net,
-        leads,
-        roots,
-        passes,
-        &mut ends,
-        sources,
-        &mut clocks,
-    );
-    let mut start = [0u16; 1024];
-    first_clock(file, net, &mut start);
     first_words(
         file,
         net,
-        roots,
-        passes,
-        &start,
-        &clocks,
-        sources,
-        &mut copied,
+        &timing[ROOTS..PASSES],
+        &timing[PASSES..TIMING],
+        start,
+        &wires[CLOCKS..HEADS],
+        &wires[FROMS..CLOCKS],
+        copied,
     );
-    // No clock of a wire is asked for any more, so the links take their place; and the heads stand where the clocks of the registers will.
-    let mut late = [65535u16; 1024];
-    link_wires(&ends, 3 * node_count(file, net), &mut late, &mut clocks);
-    let entries = place_entries(
-        file,
-        net,
-        &ends,
-        &copied,
-        &late,
-        &clocks,
-        &mut firsts,
-        owners,
-        words,
-    );
+}
+
+// Plans the rewritten netlist, from the words of the first clock. Where it has more than 1,024 nodes nothing is said of the area.
+pub fn make_plan(file: &[u8], net: &[u16], timing: &[u16], start: &[u16], plan: &mut [u16]) -> Plan
+    ghost { Net }
+    requires { λ N. opened 𝓤 (now file) (now net) N (Timed N (now timing) × (length (now timing) ≡ 3072) × Inside N × Complete inClock N (orderOf (now net))
+        × WordsAt N 0 (now start) × (length (now start) ≡ 1024) × (length (now plan) ≡ 7168)) }
+    ensures { λ N r. ⌜ PlanLaid N (now (plan .exit)) (r .entries) (r .total) ⌝ }
+{
+    fill(plan, 65535);
+    let mut wires = [65535u16; WIRES];
+    let mut copied = [0u16; 3072];
+    enter_wires(file, net, timing, &mut wires);
+    copied_words(file, net, timing, start, &wires, &mut copied);
+    // No clock of a wire is asked for any more: the links take their place.
+    link_wires(&mut wires, 3 * node_count(file, net));
+    let entries = place_entries(file, net, &wires, &copied, plan);
     if 1024 < entries {
         return Plan {
             entries,
             total: entries,
         };
     }
-    fill(&mut late, 65535);
-    let total = lay_wires(
+    let total = lay_wires(file, net, timing, &wires, &copied, entries, plan);
+    Plan { entries, total }
+}
+
+// The reset words of the planned nodes.
+pub fn reset_words(
+    file: &[u8],
+    net: &[u16],
+    timing: &[u16],
+    start: &[u16],
+    plan: &[u16],
+    made: Plan,
+    words: &mut [u16],
+)
+    ghost { Net }
+    requires { λ N. opened 𝓤 (now file) (now net) N (Timed N (now timing) × (length (now timing) ≡ 3072) × Inside N × Complete inClock N (orderOf (now net))
+        × WordsAt N 0 (now start) × (length (now start) ≡ 1024) × (length (now plan) ≡ 7168) × (length (now words) ≡ 1024)
+        × PlanLaid N (now plan) (made .entries) (made .total) × (made .total ≤ 1024)) }
+    ensures { λ N _. ⌜ Planned N (ownersIn (now (plan .entry))) (now (words .exit)) (sourcesIn (now (plan .entry))) (made .entries) (made .total) ⌝ }
+{
+    copy(&plan[WORDS..LATE], words);
+    first_words(
         file,
         net,
-        leads,
-        roots,
-        passes,
-        &ends,
-        &copied,
-        &firsts,
-        entries,
-        owners,
+        &timing[ROOTS..PASSES],
+        &timing[PASSES..TIMING],
+        start,
+        &plan[LATE..FIRSTS],
+        &plan[OWNERS..WORDS],
         words,
-        &mut late,
-        sources,
     );
-    if 1024 < total {
-        return Plan { entries, total };
-    }
-    first_words(file, net, roots, passes, &start, &late, owners, words);
-    Plan { entries, total }
 }

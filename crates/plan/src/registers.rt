@@ -1,38 +1,51 @@
 // The registers of the rewritten netlist: those of each wire, by reader, by operand, from source to reader; and what each entry reads.
+use super::FIRSTS;
+use super::LATE;
+use super::Plan;
+use super::SOURCES;
 use super::entries::find_from;
 use areas::number_at;
 use areas::put_number;
 use circuit::source_of;
 use circuit::wide;
+use wiring::ENDS;
 use wiring::count_on;
 ghost use mathlib.Core.Path.{_≡_};
 ghost use Prim.Native.Nat.{_+_, _*_, _<_, _≤_};
-ghost use lib.ListN.{length};
+ghost use lib.ListN.{length, set};
 ghost use Rattle.netlist.specs.Net.{Net};
 ghost use Rattle.circuit.specs.Opened.{opened};
+ghost use Rattle.wires.specs.Traced.{rootsIn, passesIn};
+ghost use Rattle.wiring.specs.Wiring.{endsIn};
+ghost use Rattle.plan.specs.Areas.{ownersIn, wordsIn, lateIn, firstsIn, sourcesIn};
 ghost use Rattle.plan.specs.Registers.{behind, PutsRegisters, entryCount, Planning, Laid, AllLaid};
 
+// Puts register r, which has the words of node s from a clock on and reads a node, where there is room for it.
+fn put_register(r: usize, s: u16, clock: u16, before: u16, plan: &mut [u16])
+    requires { ⌜ (r ≤ 65535) × (length (now plan) ≡ 7168) ⌝ }
+    ensures { λ _. ⌜ (ownersIn (now (plan .exit)) ≡ set (ownersIn (now (plan .entry))) r s) × (lateIn (now (plan .exit)) ≡ set (lateIn (now (plan .entry))) r clock)
+        × (sourcesIn (now (plan .exit)) ≡ set (sourcesIn (now (plan .entry))) (3 * r) before)
+        × (wordsIn (now (plan .exit)) ≡ wordsIn (now (plan .entry))) × (firstsIn (now (plan .exit)) ≡ firstsIn (now (plan .entry))) ⌝ }
+{
+    if r < 1024 {
+        put_number(plan, r, s);
+        put_number(plan, LATE + r, clock);
+        put_number(plan, SOURCES + 3 * r, before);
+    }
+}
+
 // Puts the registers of a wire, from its source on.
-fn put_registers(
-    s: u16,
-    from: u16,
-    lead: usize,
-    count: usize,
-    start: usize,
-    owners: &mut [u16],
-    late: &mut [u16],
-    sources: &mut [u16],
-)
-    requires { ⌜ (lead ≤ 1024) × (count ≤ 2049) × (start ≤ 1024) × (length (now owners) ≡ 1024) × (length (now late) ≡ 1024) × (length (now sources) ≡ 3072) ⌝ }
-    ensures { λ _. ⌜ PutsRegisters s from lead count start (now (owners .entry)) (now (late .entry)) (now (sources .entry)) (now (owners .exit)) (now (late .exit)) (now (sources .exit)) ⌝ }
+fn put_registers(s: u16, from: u16, lead: usize, count: usize, start: usize, plan: &mut [u16])
+    requires { ⌜ (lead ≤ 1024) × (count ≤ 2049) × (start ≤ 1024) × (length (now plan) ≡ 7168) ⌝ }
+    ensures { λ _. ⌜ PutsRegisters s from lead count start (ownersIn (now (plan .entry))) (lateIn (now (plan .entry))) (sourcesIn (now (plan .entry)))
+        (ownersIn (now (plan .exit))) (lateIn (now (plan .exit))) (sourcesIn (now (plan .exit)))
+        × (wordsIn (now (plan .exit)) ≡ wordsIn (now (plan .entry))) × (firstsIn (now (plan .exit)) ≡ firstsIn (now (plan .entry))) ⌝ }
 {
     let mut before = from;
     let mut t: usize = 0;
     while t < count {
         let r = start + t;
-        put_number(owners, r, s);
-        put_number(late, r, (lead + (count - 1 - t)) as u16);
-        put_number(sources, 3 * r, before);
+        put_register(r, s, (lead + (count - 1 - t)) as u16, before, plan);
         before = r as u16;
         t = t + 1;
     }
@@ -50,45 +63,40 @@ fn last_of(from: u16, start: usize, count: usize) -> u16
     }
 }
 
-// Lays wire m, the one to operand m % 3 of the entry m / 3, where there is one. In the old netlist its number is k.
+// Lays wire m, the one to operand m % 3 of the entry m / 3, where there is one; gives the number of nodes. In the old netlist its number is k.
 fn lay_wire(
     file: &[u8],
     net: &[u16],
-    leads: &[u16],
-    roots: &[u16],
-    passes: &[u16],
-    ends: &[u16],
+    timing: &[u16],
+    wires: &[u16],
     copied: &[u16],
-    firsts: &[u16],
-    entries: usize,
+    made: Plan,
     m: usize,
-    total: usize,
-    owners: &mut [u16],
-    words: &[u16],
-    late: &mut [u16],
-    sources: &mut [u16],
+    plan: &mut [u16],
 ) -> usize
     ghost { Net }
-    requires { λ N. opened 𝓤 (now file) (now net) N (Planning N (now leads) (now roots) (now passes) (now ends) (now copied) (now firsts)
-        × (entries ≡ entryCount N) × (m < 3 * entries) × (total ≤ 1024)
-        × (length (now owners) ≡ 1024) × (length (now late) ≡ 1024) × (length (now sources) ≡ 3072)
-        × Laid N (now owners) (now words) (now late) (now sources) m total) }
-    ensures { λ N r. ⌜ Laid N (now (owners .exit)) (now (words .entry)) (now (late .exit)) (now (sources .exit)) (m + 1) r × (r ≤ 3073) ⌝ }
+    requires { λ N. opened 𝓤 (now file) (now net) N (Planning N (now timing) (rootsIn (now timing)) (passesIn (now timing)) (endsIn (now wires)) (now copied) (firstsIn (now plan))
+        × (made .entries ≡ entryCount N) × (m < 3 * made .entries) × (made .total ≤ 1024) × (length (now plan) ≡ 7168)
+        × Laid N (ownersIn (now plan)) (wordsIn (now plan)) (lateIn (now plan)) (sourcesIn (now plan)) m (made .total)) }
+    ensures { λ N r. ⌜ Laid N (ownersIn (now (plan .exit))) (wordsIn (now (plan .exit))) (lateIn (now (plan .exit))) (sourcesIn (now (plan .exit))) (m + 1) r × (r ≤ 3073)
+        × (firstsIn (now (plan .exit)) ≡ firstsIn (now (plan .entry))) ⌝ }
 {
-    let x = wide(number_at(owners, m / 3));
+    let entries = made.entries;
+    let total = made.total;
+    let x = wide(number_at(plan, m / 3));
     let k = 3 * x + m % 3;
-    let end = number_at(ends, k);
+    let end = number_at(wires, ENDS + k);
     if end == 65535 {
         return total;
     }
     let s = source_of(file, net, x, m % 3);
     let c = number_at(copied, k);
-    let first = wide(number_at(firsts, wide(end)));
-    let from = find_from(words, c, first, entries) as u16;
-    let count = count_on(file, net, leads, roots, passes, x, s);
-    let lead = wide(number_at(leads, x));
-    put_registers(s as u16, from, lead, count, total, owners, late, sources);
-    put_number(sources, m, last_of(from, total, count));
+    let first = wide(number_at(plan, FIRSTS + wide(end)));
+    let from = find_from(plan, c, first, entries) as u16;
+    let count = count_on(file, net, timing, x, s);
+    let lead = wide(number_at(timing, x));
+    put_registers(s as u16, from, lead, count, total, plan);
+    put_number(plan, SOURCES + m, last_of(from, total, count));
     total + count
 }
 
@@ -96,23 +104,17 @@ fn lay_wire(
 pub fn lay_wires(
     file: &[u8],
     net: &[u16],
-    leads: &[u16],
-    roots: &[u16],
-    passes: &[u16],
-    ends: &[u16],
+    timing: &[u16],
+    wires: &[u16],
     copied: &[u16],
-    firsts: &[u16],
     entries: usize,
-    owners: &mut [u16],
-    words: &[u16],
-    late: &mut [u16],
-    sources: &mut [u16],
+    plan: &mut [u16],
 ) -> usize
     ghost { Net }
-    requires { λ N. opened 𝓤 (now file) (now net) N (Planning N (now leads) (now roots) (now passes) (now ends) (now copied) (now firsts)
-        × (entries ≡ entryCount N) × (length (now owners) ≡ 1024) × (length (now late) ≡ 1024) × (length (now sources) ≡ 3072)
-        × Laid N (now owners) (now words) (now late) (now sources) 0 entries) }
-    ensures { λ N r. ⌜ AllLaid N (now (owners .exit)) (now (words .entry)) (now (late .exit)) (now (sources .exit)) r ⌝ }
+    requires { λ N. opened 𝓤 (now file) (now net) N (Planning N (now timing) (rootsIn (now timing)) (passesIn (now timing)) (endsIn (now wires)) (now copied) (firstsIn (now plan))
+        × (entries ≡ entryCount N) × (length (now plan) ≡ 7168)
+        × Laid N (ownersIn (now plan)) (wordsIn (now plan)) (lateIn (now plan)) (sourcesIn (now plan)) 0 entries) }
+    ensures { λ N r. ⌜ AllLaid N (ownersIn (now (plan .exit))) (wordsIn (now (plan .exit))) (lateIn (now (plan .exit))) (sourcesIn (now (plan .exit))) r ⌝ }
 {
     let mut total = entries;
     let mut m: usize = 0;
@@ -120,23 +122,8 @@ pub fn lay_wires(
         if 1024 < total {
             return total;
         }
-        total = lay_wire(
-            file,
-            net,
-            leads,
-            roots,
-            passes,
-            ends,
-            copied,
-            firsts,
-            entries,
-            m,
-            total,
-            owners,
-            words,
-            late,
-            sources,
-        );
+        let made = Plan { entries, total };
+        total = lay_wire(file, net, timing, wires, copied, made, m, plan);
         m = m + 1;
     }
     total

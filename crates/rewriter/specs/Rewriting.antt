@@ -5,11 +5,13 @@ use mathlib.Core.Bool.{true, false}
 use mathlib.Core.List.{List, [], _∷_, _++_}
 use Prim.Native.Nat.{ℕ, _≤_, _<_, zero-le}
 use native.Mathlib.Omega.{arith}
-use lib.ListN.{length, drop, length-map}
+use lib.ListN.{length, getD, take, drop, length-map}
+use lib.Seq.{getD-take}
 use lib.Dec.{ltb, lit<}
 use borrow.Author.Tests.{lt-ltb, le-ltb, ltb-false}
 use Rattle.lists.specs.BelowLaws.{true-or-false}
 use Rattle.netlist.specs.Net.{Net, size}
+use Rattle.netlist.specs.Checks.{WellFormed}
 use Rattle.netlist.specs.Verdict.{ofWhole, verdict, onward}
 use Rattle.netlist.specs.VerdictLaws.{fine-clear}
 use Rattle.netlist.specs.File.{Decoded, decode, decodedNet, judged, fileVerdict, encode}
@@ -25,6 +27,9 @@ use Rattle.retiming.specs.Rewrite.{places, nodeOf, timing, rewrittenWith, rewri
 use Rattle.retiming.specs.Debt.{grown, debtVerdict}
 use Rattle.retiming.specs.FileRewrite.{rewriterVerdict, rewrittenOf, rewrittenFile, Rewrote, written, writtenAfter, rewriteFile}
 use Rattle.leads.specs.Debts.{debtsVerdict, debts-first}
+use Rattle.leads.specs.Settled.{LeadsIn}
+use Rattle.wires.specs.Traced.{rootsIn, passesIn, AllTraced}
+use Rattle.wiring.specs.Wiring.{Timed}
 
 -- ---- 13
 
@@ -83,9 +88,19 @@ module _ (N : Net) (out : List ℕ) where
   pub net-debtless : {v : Verdict} → v ≡ debtsVerdict N → v ≡ Fine → debtlessOutcome N out ≡ netOutcome N out
   net-debtless e q = ap (λ (w : Verdict). writtenAfter w (encode (rewritten N)) out) (sym (ap (λ (w : Verdict). onward w (grownVerdict N)) q) ∙ onward-verdict e)
 
-pub no-closed-debt : (N : Net) {v : Verdict} → v ≡ debtsVerdict N → v ≡ Fine → closedDebt N ≡ false
+no-closed-debt : (N : Net) {v : Verdict} → v ≡ debtsVerdict N → v ≡ Fine → closedDebt N ≡ false
 unfolding debtsVerdict
 no-closed-debt N e q = fine-clear _ (sym e ∙ q) .0 0 (lit< tt)
+
+-- the leads stay where the roots are found
+pub now-timed : {N : Net} (leads timing : List ℕ) → WellFormed N → {v : Verdict} → v ≡ debtsVerdict N → v ≡ Fine → (v ≡ Fine → LeadsIn N leads) → take 1024 timing ≡ take 1024 leads
+    → AllTraced N (rootsIn timing) (passesIn timing) → Timed N timing
+now-timed {N} leads timing formed e q found same traced = record {
+  formed = formed;
+  debtless = no-closed-debt N e q;
+  leads-in = λ v h. let l : v < 1024 = omega (arith, formed .fields .bounds .nodes) in sym (getD-take 1024 timing v 0 l) ∙ ap (λ (y : List ℕ). getD y v 0) same ∙ getD-take 1024 leads v 0 l ∙ found q v h;
+  traced = traced;
+}
 
 -- ---- the file
 

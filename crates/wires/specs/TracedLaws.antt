@@ -6,15 +6,16 @@ use mathlib.Core.List.{List}
 use Prim.Native.Nat.{ℕ, zero, suc, _+_, _-_, _*_, _≤_, _<_, zero-le}
 use native.Mathlib.Decide.{ℕ-discrete}
 use native.Mathlib.Omega.{arith}
-use lib.ListN.{length, getD, set}
-use lib.Seq.{getD-set-same, getD-set-other}
+use lib.ListN.{length, getD, set, take}
+use lib.Seq.{getD-set-same, getD-set-other, take-set-le}
 use borrow.Author.Count.{below-more}
 use Rattle.lists.specs.Lists.{one}
 use Rattle.lists.specs.BelowLaws.{true-or-false}
+use Rattle.lists.specs.Sections.{section-length, section-read, section-put, section-before, section-after}
 use Rattle.netlist.specs.Net.{Net, size, elementAt, source, isRegister, Sourced}
 use Rattle.retiming.specs.Rewrite.{passedIn, root, passed}
 use Rattle.retiming.specs.Wires.{behind, ringless-rooted, wire-next, wire-none}
-use Rattle.wires.specs.Traced.{Ringless, Traced, Waits, HalfTraced, MoreTraced}
+use Rattle.wires.specs.Traced.{rootsIn, passesIn, Ringless, Traced, Waits, HalfTraced, MoreTraced}
 
 -- a wire passes no more registers than there are nodes
 passed-in-few : (N : Net) (k s : ℕ) → passedIn N k s ≤ k
@@ -43,6 +44,28 @@ pub record Written (roots passes more through : List ℕ) (v x y : ℕ) : Type 0
   pub passes-are : through ≡ set passes v y
   pub root-room : v < length roots
   pub pass-room : v < length passes
+
+-- a word that is read of the timing area is one of node u
+module _ (l : List ℕ) (u : ℕ) {n x : ℕ} (h : u < n) (few : n ≤ 1024) where
+  pub root-at : x ≡ getD l (1024 + u) 0 → x ≡ getD (rootsIn l) u 0
+  root-at e = e ∙ sym (section-read 1024 1024 l u (omega (arith, h, few)))
+
+  pub pass-at : x ≡ getD l (2048 + u) 0 → x ≡ getD (passesIn l) u 0
+  pass-at e = e ∙ sym (section-read 2048 1024 l u (omega (arith, h, few)))
+
+-- both words of node v are put into the timing area
+pub put-both : (l m k : List ℕ) (v x y : ℕ) → v < 1024 → length l ≡ 3072 → m ≡ set l (1024 + v) x → k ≡ set m (2048 + v) y
+    → Written (rootsIn l) (passesIn l) (rootsIn k) (passesIn k) v x y × (take 1024 k ≡ take 1024 l)
+put-both l m k v x y h e a b = (
+  record {
+    roots-are = ap (λ (w : List ℕ). rootsIn w) b ∙ section-after 1024 1024 m (2048 + v) y (omega arith) ∙ ap (λ (w : List ℕ). rootsIn w) a ∙ section-put 1024 1024 l v x h;
+    passes-are = ap (λ (w : List ℕ). passesIn w) b ∙ section-put 2048 1024 m v y h
+        ∙ ap (λ (w : List ℕ). set (passesIn w) v y) a ∙ ap (λ (w : List ℕ). set w v y) (section-before 2048 1024 l (1024 + v) x (omega arith));
+    root-room = omega (arith, h, section-length 1024 1024 l (omega (arith, e)));
+    pass-room = omega (arith, h, section-length 2048 1024 l (omega (arith, e)));
+  },
+  ap (take 1024) b ∙ take-set-le 1024 m (2048 + v) y (omega arith) ∙ ap (take 1024) a ∙ take-set-le 1024 l (1024 + v) x (omega arith),
+)
 
 module _ (N : Net) where
   -- from a register to its source

@@ -5,12 +5,20 @@ use circuit::node_count;
 use circuit::register;
 use circuit::source_of;
 ghost use mathlib.Core.Path.{_≡_};
-ghost use Prim.Native.Nat.{_<_, _≤_};
-ghost use lib.ListN.{length};
+ghost use Prim.Native.Nat.{_<_};
+ghost use lib.ListN.{length, take};
 ghost use Rattle.netlist.specs.Net.{Net, size, Sourced};
 ghost use Rattle.circuit.specs.Opened.{opened};
 ghost use Rattle.retiming.specs.Rewrite.{root, passed};
-ghost use Rattle.wires.specs.Traced.{Ringless, HalfTraced, MoreTraced, AllTraced};
+ghost use Rattle.wires.specs.Traced.{rootsIn, passesIn, Ringless, HalfTraced, MoreTraced, AllTraced};
+ghost use Rattle.wires.specs.TracedLaws.{Written};
+
+// The timing area: the leads of the nodes, the roots of their wires, and the registers passed.
+pub const ROOTS: usize = 1024;
+
+pub const PASSES: usize = 2048;
+
+pub const TIMING: usize = 3072;
 
 // The passes of a register that is not traced yet: no wire passes so many.
 const WAITS: u16 = 65535;
@@ -21,83 +29,95 @@ struct Wire {
     through: u16,
 }
 
+// Writes the root and the passes of node v.
+fn put_wire(timing: &mut [u16], v: usize, root: u16, through: u16)
+    requires { ⌜ (v < 1024) × (length (now timing) ≡ 3072) ⌝ }
+    ensures { λ _. ⌜ Written (rootsIn (now (timing .entry))) (passesIn (now (timing .entry))) (rootsIn (now (timing .exit))) (passesIn (now (timing .exit))) v root through
+        × (take 1024 (now (timing .exit)) ≡ take 1024 (now (timing .entry))) ⌝ }
+{
+    put_number(timing, ROOTS + v, root);
+    put_number(timing, PASSES + v, through);
+}
+
 // Every node is its own root with no register passed, but the registers wait. Without a branch.
-fn mark_all(file: &[u8], net: &[u16], roots: &mut [u16], passes: &mut [u16])
+fn mark_all(file: &[u8], net: &[u16], timing: &mut [u16])
     ghost { Net }
-    requires { λ N. opened 𝓤 (now file) (now net) N ((1024 ≤ length (now roots)) × (1024 ≤ length (now passes))) }
-    ensures { λ N _. ⌜ HalfTraced N (now (roots .exit)) (now (passes .exit)) (size N) ⌝ }
+    requires { λ N. opened 𝓤 (now file) (now net) N (length (now timing) ≡ 3072) }
+    ensures { λ N _. ⌜ HalfTraced N (rootsIn (now (timing .exit))) (passesIn (now (timing .exit))) (size N)
+        × (take 1024 (now (timing .exit)) ≡ take 1024 (now (timing .entry))) ⌝ }
 {
     let n = node_count(file, net);
     let mut v: usize = 0;
     while v < n {
-        put_number(roots, v, v as u16);
-        put_number(passes, v, (65535 * register(file, net, v)) as u16);
+        let waits = (65535 * register(file, net, v)) as u16;
+        put_wire(timing, v, v as u16, waits);
         v = v + 1;
     }
 }
 
 // The wire of node v: back through the registers that wait, up to a node that is traced.
-fn wire_of(file: &[u8], net: &[u16], v: usize, roots: &[u16], passes: &[u16]) -> Wire
+fn wire_of(file: &[u8], net: &[u16], v: usize, timing: &[u16]) -> Wire
     ghost { Net }
-    requires { λ N. opened 𝓤 (now file) (now net) N (Sourced N × Ringless N × (v < size N) × HalfTraced N (now roots) (now passes) (size N)) }
+    requires { λ N. opened 𝓤 (now file) (now net) N (Sourced N × Ringless N × (v < size N) × HalfTraced N (rootsIn (now timing)) (passesIn (now timing)) (size N)) }
     ensures { λ N r. ⌜ (r .root ≡ root N v) × (r .through ≡ passed N v) ⌝ }
 {
     let mut u = v;
     let mut count: u16 = 0;
-    while number_at(passes, u) == WAITS {
+    while number_at(timing, PASSES + u) == WAITS {
         u = source_of(file, net, u, 0);
         count = count + 1;
     }
     Wire {
-        root: number_at(roots, u),
-        through: count + number_at(passes, u),
+        root: number_at(timing, ROOTS + u),
+        through: count + number_at(timing, PASSES + u),
     }
 }
 
 // Traces the registers that wait on the wire of node v, from v back; each passes one register less than the one before it.
-fn set_back(file: &[u8], net: &[u16], v: usize, wire: Wire, roots: &mut [u16], passes: &mut [u16])
+fn set_back(file: &[u8], net: &[u16], v: usize, wire: Wire, timing: &mut [u16])
     ghost { Net }
-    requires { λ N. opened 𝓤 (now file) (now net) N (Sourced N × Ringless N × (v < size N) × HalfTraced N (now roots) (now passes) (size N)
-        × (1024 ≤ length (now roots)) × (1024 ≤ length (now passes)) × (wire .root ≡ root N v) × (wire .through ≡ passed N v)) }
-    ensures { λ N _. ⌜ HalfTraced N (now (roots .exit)) (now (passes .exit)) (size N)
-        × MoreTraced N (now (roots .entry)) (now (passes .entry)) (now (roots .exit)) (now (passes .exit)) v ⌝ }
+    requires { λ N. opened 𝓤 (now file) (now net) N (Sourced N × Ringless N × (v < size N) × HalfTraced N (rootsIn (now timing)) (passesIn (now timing)) (size N)
+        × (length (now timing) ≡ 3072) × (wire .root ≡ root N v) × (wire .through ≡ passed N v)) }
+    ensures { λ N _. ⌜ HalfTraced N (rootsIn (now (timing .exit))) (passesIn (now (timing .exit))) (size N)
+        × MoreTraced N (rootsIn (now (timing .entry))) (passesIn (now (timing .entry))) (rootsIn (now (timing .exit))) (passesIn (now (timing .exit))) v
+        × (take 1024 (now (timing .exit)) ≡ take 1024 (now (timing .entry))) ⌝ }
 {
     let from = wire.root;
     let mut left = wire.through;
     let mut u = v;
-    while number_at(passes, u) == WAITS {
-        put_number(roots, u, from);
-        put_number(passes, u, left);
+    while number_at(timing, PASSES + u) == WAITS {
+        put_wire(timing, u, from, left);
         u = source_of(file, net, u, 0);
         left = left - 1;
     }
 }
 
 // Node v; what was traced before stays so.
-fn trace(file: &[u8], net: &[u16], v: usize, roots: &mut [u16], passes: &mut [u16])
+fn trace(file: &[u8], net: &[u16], v: usize, timing: &mut [u16])
     ghost { Net }
-    requires { λ N. opened 𝓤 (now file) (now net) N (Sourced N × Ringless N × (v < size N) × HalfTraced N (now roots) (now passes) (size N)
-        × (1024 ≤ length (now roots)) × (1024 ≤ length (now passes))) }
-    ensures { λ N _. ⌜ HalfTraced N (now (roots .exit)) (now (passes .exit)) (size N)
-        × MoreTraced N (now (roots .entry)) (now (passes .entry)) (now (roots .exit)) (now (passes .exit)) v ⌝ }
+    requires { λ N. opened 𝓤 (now file) (now net) N (Sourced N × Ringless N × (v < size N) × HalfTraced N (rootsIn (now timing)) (passesIn (now timing)) (size N)
+        × (length (now timing) ≡ 3072)) }
+    ensures { λ N _. ⌜ HalfTraced N (rootsIn (now (timing .exit))) (passesIn (now (timing .exit))) (size N)
+        × MoreTraced N (rootsIn (now (timing .entry))) (passesIn (now (timing .entry))) (rootsIn (now (timing .exit))) (passesIn (now (timing .exit))) v
+        × (take 1024 (now (timing .exit)) ≡ take 1024 (now (timing .entry))) ⌝ }
 {
-    if number_at(passes, v) == WAITS {
-        let wire = wire_of(file, net, v, roots, passes);
-        set_back(file, net, v, wire, roots, passes);
+    if number_at(timing, PASSES + v) == WAITS {
+        let wire = wire_of(file, net, v, timing);
+        set_back(file, net, v, wire, timing);
     }
 }
 
-// Every node; each register is traced once. Past the number of nodes nothing is said of the two work areas.
-pub fn find_roots(file: &[u8], net: &[u16], roots: &mut [u16], passes: &mut [u16])
+// Every node; each register is traced once. The leads stay; past the number of nodes nothing is said of roots and passes.
+pub fn find_roots(file: &[u8], net: &[u16], timing: &mut [u16])
     ghost { Net }
-    requires { λ N. opened 𝓤 (now file) (now net) N (Sourced N × Ringless N × (1024 ≤ length (now roots)) × (1024 ≤ length (now passes))) }
-    ensures { λ N _. ⌜ AllTraced N (now (roots .exit)) (now (passes .exit)) ⌝ }
+    requires { λ N. opened 𝓤 (now file) (now net) N (Sourced N × Ringless N × (length (now timing) ≡ 3072)) }
+    ensures { λ N _. ⌜ AllTraced N (rootsIn (now (timing .exit))) (passesIn (now (timing .exit))) × (take 1024 (now (timing .exit)) ≡ take 1024 (now (timing .entry))) ⌝ }
 {
-    mark_all(file, net, roots, passes);
+    mark_all(file, net, timing);
     let n = node_count(file, net);
     let mut v: usize = 0;
     while v < n {
-        trace(file, net, v, roots, passes);
+        trace(file, net, v, timing);
         v = v + 1;
     }
 }

@@ -6,12 +6,13 @@ use mathlib.Core.List.{List}
 use Prim.Native.Nat.{ℕ, _+_, _*_, _≤_, _<_}
 use native.Mathlib.Decide.{ℕ-discrete}
 use native.Mathlib.Omega.{arith}
-use lib.ListN.{length, getD, set, replicate, getD-replicate}
+use lib.ListN.{length, getD, set, replicate, getD-replicate, length-set}
 use lib.Seq.{getD-set-same, getD-set-other}
 use Rattle.lists.specs.BelowLaws.{true-or-false}
+use Rattle.lists.specs.Sections.{section-length, section-read, section-put, section-before, section-after, last-read, last-put}
 use Rattle.netlist.specs.Net.{Net, size, elementAt, isMemory}
 use Rattle.retiming.specs.Rewrite.{memoryAt}
-use Rattle.wiring.specs.Wiring.{wireAt, WiredTo}
+use Rattle.wiring.specs.Wiring.{endsIn, clocksIn, headsIn, wireAt, WiredTo}
 
 -- r is the first wire from k on that ends at u, or there is none
 pub record From (ends : List ℕ) (wires u k r : ℕ) : Type 0 where
@@ -104,6 +105,22 @@ module _ (ends clocks : List ℕ) (wires : ℕ) where
 
 pub linked-as : {ends clocks heads links : List ℕ} {wires wires′ k : ℕ} → wires ≡ wires′ → LinkedFrom ends clocks wires heads links k → LinkedFrom ends clocks wires′ heads links k
 linked-as {ends} {clocks} {heads} {links} {k = k} p t = subst (λ (w : ℕ). LinkedFrom ends clocks w heads links k) p t
+
+-- a link and a head put into the area
+module _ (l : List ℕ) {m : List ℕ} {wires w u : ℕ} (few : wires ≤ 3072) (h : w < wires) (long : length l ≡ 10240) (ue : u ≡ getD l (0 + w) 0)
+    (p : m ≡ set (set l (6144 + w) (getD l (9216 + u) 0)) (9216 + u) w) where
+  abbrev put : List ℕ
+  put = set l (6144 + w) (getD l (9216 + u) 0)
+
+  pub ends-kept : endsIn m ≡ endsIn l
+  ends-kept = ap endsIn p ∙ section-after 0 3072 put (9216 + u) w (omega arith) ∙ section-after 0 3072 l (6144 + w) (getD l (9216 + u) 0) (omega arith)
+
+  pub linked-put : (clocks : List ℕ) → LinkedFrom (endsIn l) clocks wires (headsIn l) (clocksIn l) (w + 1) → LinkedFrom (endsIn l) clocks wires (headsIn m) (clocksIn m) w
+  linked-put clocks t =
+      linked-more (endsIn l) clocks wires h t (ue ∙ sym (section-read 0 3072 l w (omega arith))) (omega (arith, section-length 6144 3072 l (omega arith))) (omega (arith, section-length 9216 1024 l (omega arith)))
+      (ap headsIn p ∙ last-put 9216 1024 put (omega (arith, length-set l (6144 + w) (getD l (9216 + u) 0))) u w ∙ ap (λ (y : List ℕ). set y u w) (section-before 9216 1024 l (6144 + w) (getD l (9216 + u) 0) (omega arith)))
+      (ap clocksIn p ∙ section-after 6144 3072 put (9216 + u) w (omega arith) ∙ section-put 6144 3072 l w (getD l (9216 + u) 0) (omega arith)
+      ∙ ap (set (clocksIn l) w) (sym (last-read 9216 1024 l (omega arith) u)))
 
 -- ---- every wire of a ROM has a clock
 

@@ -6,6 +6,7 @@ use Prim.Native.Nat.{ℕ, _+_, _-_, _*_, _/_, _%_, _≤_, _<_}
 use lib.ListN.{getD}
 use lib.Dec.{ltb}
 use Rattle.lists.specs.Lists.{one}
+use Rattle.lists.specs.Sections.{section}
 use Rattle.words.specs.Gates.{operandsOf}
 use Rattle.netlist.specs.declared.Element.{Element}
 use Rattle.netlist.specs.declared.Element.the-variants.{Input, Output, Register, Async, Clocked, Gate}
@@ -15,7 +16,7 @@ use Rattle.behaviour.specs.Run.{zeroWord}
 use Rattle.retiming.specs.Leads.{lead, closedDebt}
 use Rattle.retiming.specs.Rewrite.{root, passed, ownHere, memoryAt, oldOn, registersOn, countOn, copyOn, timing, timingBy}
 use Rattle.leads.specs.Settled.{LeadsIn}
-use Rattle.wires.specs.Traced.{AllTraced}
+use Rattle.wires.specs.Traced.{rootsIn, passesIn, AllTraced}
 
 -- what the rewriter knows of a netlist before it plans: 6 to 11 are passed, and three work areas hold the leads and where the wires come from
 pub record Ready (N : Net) (leads roots passes : List ℕ) : Type 0 where
@@ -23,6 +24,23 @@ pub record Ready (N : Net) (leads roots passes : List ℕ) : Type 0 where
   pub debtless : closedDebt N ≡ false
   pub leads-in : LeadsIn N leads
   pub traced : AllTraced N roots passes
+
+-- and they are sections of one area
+abbrev pub Timed : Net → List ℕ → Type 0
+Timed N timing = Ready N timing (rootsIn timing) (passesIn timing)
+
+-- the sections of the wires' area: the roots, the sources and the clocks of the wires, and the first wire of each ROM
+abbrev pub endsIn : List ℕ → List ℕ
+endsIn l = section 0 3072 l
+
+abbrev pub fromsIn : List ℕ → List ℕ
+fromsIn l = section 3072 3072 l
+
+abbrev pub clocksIn : List ℕ → List ℕ
+clocksIn l = section 6144 3072 l
+
+abbrev pub headsIn : List ℕ → List ℕ
+headsIn l = section 9216 1024 l
 
 -- how many registers stand as nodes of their own on the wire from s to x, in the rewritten netlist
 unfoldable pub countFrom : Net → ℕ → ℕ → ℕ
@@ -76,6 +94,10 @@ module _ (N : Net) where
       pub wires : (j : ℕ) → j < k → wireAt j ≡ true → Wired j
       pub gaps : (j : ℕ) → j < k → wireAt j ≡ false → Unwired j
       pub ahead : (j : ℕ) → k ≤ j → j < 3072 → Unwired j
+
+  -- and the area holds them
+  abbrev pub Entered : List ℕ → ℕ → Type 0
+  Entered wires k = WiredTo (endsIn wires) (fromsIn wires) (clocksIn wires) k
 
   -- a work area has the reset word that each wire's root needs for it
   abbrev pub Copied : List ℕ → Type 0

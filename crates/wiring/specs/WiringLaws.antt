@@ -8,19 +8,20 @@ use native.Mathlib.Nat.{le-refl}
 use native.Mathlib.Omega.{arith}
 use lib.ListN.{length, getD, set, replicate, getD-replicate}
 use lib.Seq.{getD-set-same, getD-set-other}
-use lib.Dec.{ltb}
 use borrow.Author.Tests.{lt-ltb, le-ltb, ltb-true}
-use Rattle.lists.specs.Lists.{one, countBelow}
+use Rattle.lists.specs.Lists.{one}
+use Rattle.lists.specs.Sections.{section-length, section-read, section-put, section-before, section-after}
 use Rattle.lists.specs.BelowLaws.{lt-suc-split, lt-or-le, countBelow-le}
 use Rattle.netlist.specs.declared.Element.{Element}
 use Rattle.netlist.specs.declared.Element.the-variants.{Input, Output, Register, Async, Clocked, Gate}
 use Rattle.netlist.specs.Net.{Net, size, elementAt, source, operands, isRegister, isAsync, isMemory, isClocked, Sourced}
 use Rattle.retiming.specs.Leads.{lead}
 use Rattle.retiming.specs.AtMostRoms.{romCount, lead-at-most-roms}
-use Rattle.retiming.specs.Rewrite.{root, passed, ownHere, memoryAt}
+use Rattle.retiming.specs.Rewrite.{root, ownHere, memoryAt}
 use Rattle.retiming.specs.Wires.{root-within}
+use Rattle.wires.specs.Traced.{rootsIn, passesIn}
 use Rattle.wires.specs.TracedLaws.{passed-few}
-use Rattle.wiring.specs.Wiring.{Ready, countFrom, wiresTo, sourceOf, wireAt, lastClock, Wired, Unwired, WiredTo}
+use Rattle.wiring.specs.Wiring.{Ready, Timed, headsIn, Entered, countFrom, wiresTo, sourceOf, wireAt, lastClock, Wired, Unwired, WiredTo}
 
 pub wires-few : (e : Element) → wiresTo e ≤ operands e
 wires-few Input = omega arith
@@ -64,6 +65,14 @@ module _ {N : Net} {leads roots passes : List ℕ} (t : Ready N leads roots pass
 
       pub count-few : ((getD passes s 0 + one (isClocked (elementAt N u)) + getD leads u 0) - getD leads x 0) - one (isMemory (elementAt N u)) ≤ 2049
       count-few = omega (arith, passed-small, lead-few u root-inside, one-few (isClocked (elementAt N u)))
+
+-- the root and the registers passed, as the code reads them
+module _ {N : Net} {timing : List ℕ} {s : ℕ} (t : Timed N timing) (h : s < size N) where
+  pub root-read : getD timing (1024 + s) 0 ≡ getD (rootsIn timing) s 0
+  root-read = sym (section-read 1024 1024 timing s (omega (arith, t .formed .fields .bounds .nodes)))
+
+  pub passed-read : getD timing (2048 + s) 0 ≡ getD (passesIn timing) s 0
+  passed-read = sym (section-read 2048 1024 timing s (omega (arith, t .formed .fields .bounds .nodes)))
 
 -- ---- one wire more
 
@@ -126,6 +135,34 @@ wired-as {N} {e} {e′} {f} {f′} {c} {c′} {k} p q r w =
 
 pub wired-at : {N : Net} {e f c : List ℕ} {k m : ℕ} → k ≡ m → WiredTo N e f c k → WiredTo N e f c m
 wired-at {N} {e} {f} {c} p w = subst (WiredTo N e f c) p w
+
+-- one wire more in the area, and the heads stand as they were
+module _ {N : Net} (l : List ℕ) {k : ℕ} (w : Entered N l k) (long : length l ≡ 10240) (h : k < 3072) {end from clock at : ℕ} (g : wireAt N k ≡ true)
+    (e : end ≡ root N (sourceOf N k)) (f : from ≡ sourceOf N k) (c : clock ≡ lastClock N k) (small : clock < 65535)
+    (r : at ≡ cond (memoryAt N (root N (sourceOf N k))) clock 65535) where
+  abbrev one-put : List ℕ
+  one-put = set l (0 + k) end
+
+  abbrev two-put : List ℕ
+  two-put = set one-put (3072 + k) from
+
+  abbrev all-put : List ℕ
+  all-put = set two-put (6144 + k) at
+
+  put-wires : Entered N all-put (k + 1)
+  put-wires = wired-as
+      (section-after 0 3072 two-put (6144 + k) at (omega arith) ∙ section-after 0 3072 one-put (3072 + k) from (omega arith) ∙ section-put 0 3072 l k end h)
+      (section-after 3072 3072 two-put (6144 + k) at (omega arith) ∙ section-put 3072 3072 one-put k from h ∙ ap (λ (m : List ℕ). set m k from) (section-before 3072 3072 l (0 + k) end (omega arith)))
+      (section-put 6144 3072 two-put k at h ∙ ap (λ (m : List ℕ). set m k at) (section-before 6144 3072 one-put (3072 + k) from (omega arith) ∙ section-before 6144 3072 l (0 + k) end (omega arith)))
+      (wired-more w (section-length 0 3072 l (omega arith)) (section-length 3072 3072 l (omega arith)) (section-length 6144 3072 l (omega arith)) h g e f c small r)
+
+  put-heads : headsIn all-put ≡ headsIn l
+  put-heads = section-before 9216 1024 two-put (6144 + k) at (omega arith) ∙ section-before 9216 1024 one-put (3072 + k) from (omega arith) ∙ section-before 9216 1024 l (0 + k) end (omega arith)
+
+  pub entered-more : {a b z : List ℕ} → a ≡ set l (0 + k) end → b ≡ set a (3072 + k) from → z ≡ set b (6144 + k) at → Entered N z (k + 1) × (headsIn z ≡ headsIn l)
+  entered-more x y q =
+      let same = q ∙ ap (λ (m : List ℕ). set m (6144 + k) at) (y ∙ ap (λ (m : List ℕ). set m (3072 + k) from) x) in
+      subst (λ (m : List ℕ). Entered N m (k + 1) × (headsIn m ≡ headsIn l)) (sym same) (put-wires, put-heads)
 
 -- at first there is none
 pub wired-none : (N : Net) (froms : List ℕ) → WiredTo N (replicate 3072 65535) froms (replicate 3072 65535) 0

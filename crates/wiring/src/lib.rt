@@ -10,6 +10,8 @@ use circuit::register;
 use circuit::source_count;
 use circuit::source_of;
 use circuit::wide;
+use wires::PASSES;
+use wires::ROOTS;
 ghost use mathlib.Core.Path.{_≡_};
 ghost use mathlib.Core.Bool.{cond};
 ghost use Prim.Native.Nat.{_+_, _-_, _*_, _<_, _≤_};
@@ -18,7 +20,18 @@ ghost use Rattle.lists.specs.Lists.{one};
 ghost use Rattle.netlist.specs.Net.{Net, size, elementAt, isMemory};
 ghost use Rattle.circuit.specs.Circuit.{netOf, Circuit};
 ghost use Rattle.circuit.specs.Opened.{opened};
-ghost use Rattle.wiring.specs.Wiring.{Ready, countFrom, wiresTo, WiredTo};
+ghost use Rattle.wiring.specs.Wiring.{Timed, headsIn, Entered, countFrom, wiresTo};
+
+// The area of the wires: of each its root, its source, and its clock; and of each ROM its first wire.
+pub const ENDS: usize = 0;
+
+pub const FROMS: usize = 3072;
+
+pub const CLOCKS: usize = 6144;
+
+pub const HEADS: usize = 9216;
+
+pub const WIRES: usize = 10240;
 
 // What is left of a number: nothing where more is taken.
 fn minus(a: usize, b: usize) -> usize
@@ -36,23 +49,17 @@ pub fn memory_bit(file: &[u8], net: &[u16], v: usize) -> usize
 }
 
 // How many registers stand as nodes of their own on the wire from s to x, in the rewritten netlist.
-pub fn count_on(
-    file: &[u8],
-    net: &[u16],
-    leads: &[u16],
-    roots: &[u16],
-    passes: &[u16],
-    x: usize,
-    s: usize,
-) -> usize
+pub fn count_on(file: &[u8], net: &[u16], timing: &[u16], x: usize, s: usize) -> usize
     ghost { Net }
-    requires { λ N. opened 𝓤 (now file) (now net) N (Ready N (now leads) (now roots) (now passes) × (x < size N) × (s < size N)) }
+    requires { λ N. opened 𝓤 (now file) (now net) N (Timed N (now timing) × (x < size N) × (s < size N)) }
     ensures { λ N r. ⌜ (r ≡ countFrom N x s) × (r ≤ 2049) ⌝ }
 {
-    let u = wide(number_at(roots, s));
-    let before = wide(number_at(passes, s)) + clocked_rom(file, net, u) + wide(number_at(leads, u));
+    let u = wide(number_at(timing, ROOTS + s));
+    let before = wide(number_at(timing, PASSES + s))
+        + clocked_rom(file, net, u)
+        + wide(number_at(timing, u));
     minus(
-        minus(before, wide(number_at(leads, x))),
+        minus(before, wide(number_at(timing, x))),
         memory_bit(file, net, u),
     )
 }
@@ -82,81 +89,48 @@ fn rom_clock(file: &[u8], net: &[u16], u: usize, clock: u16) -> u16
 }
 
 // Enters the wire to operand p of x.
-fn enter_wire(
-    file: &[u8],
-    net: &[u16],
-    leads: &[u16],
-    roots: &[u16],
-    passes: &[u16],
-    x: usize,
-    p: usize,
-    ends: &mut [u16],
-    froms: &mut [u16],
-    clocks: &mut [u16],
-)
+fn enter_wire(file: &[u8], net: &[u16], timing: &[u16], x: usize, p: usize, wires: &mut [u16])
     ghost { Net }
-    requires { λ N. opened 𝓤 (now file) (now net) N (Ready N (now leads) (now roots) (now passes) × (x < size N) × (p < 3) × (p < wiresTo (elementAt N x))
-        × (length (now ends) ≡ 3072) × (length (now froms) ≡ 3072) × (length (now clocks) ≡ 3072)
-        × WiredTo N (now ends) (now froms) (now clocks) (3 * x + p)) }
-    ensures { λ N _. ⌜ WiredTo N (now (ends .exit)) (now (froms .exit)) (now (clocks .exit)) (3 * x + p + 1) ⌝ }
+    requires { λ N. opened 𝓤 (now file) (now net) N (Timed N (now timing) × (x < size N) × (p < 3) × (p < wiresTo (elementAt N x))
+        × (length (now wires) ≡ 10240) × Entered N (now wires) (3 * x + p)) }
+    ensures { λ N _. ⌜ Entered N (now (wires .exit)) (3 * x + p + 1) × (headsIn (now (wires .exit)) ≡ headsIn (now (wires .entry))) ⌝ }
 {
     let k = 3 * x + p;
     let s = source_of(file, net, x, p);
-    let end = number_at(roots, s);
-    let clock = count_on(file, net, leads, roots, passes, x, s) + wide(number_at(leads, x));
+    let end = number_at(timing, ROOTS + s);
+    let clock = count_on(file, net, timing, x, s) + wide(number_at(timing, x));
     let taken = rom_clock(file, net, wide(end), clock as u16);
-    put_number(ends, k, end);
-    put_number(froms, k, s as u16);
-    put_number(clocks, k, taken);
+    put_number(wires, ENDS + k, end);
+    put_number(wires, FROMS + k, s as u16);
+    put_number(wires, CLOCKS + k, taken);
 }
 
 // Enters the wires that end at x.
-fn enter_node(
-    file: &[u8],
-    net: &[u16],
-    leads: &[u16],
-    roots: &[u16],
-    passes: &[u16],
-    x: usize,
-    ends: &mut [u16],
-    froms: &mut [u16],
-    clocks: &mut [u16],
-)
+fn enter_node(file: &[u8], net: &[u16], timing: &[u16], x: usize, wires: &mut [u16])
     ghost { Net }
-    requires { λ N. opened 𝓤 (now file) (now net) N (Ready N (now leads) (now roots) (now passes) × (x < size N)
-        × (length (now ends) ≡ 3072) × (length (now froms) ≡ 3072) × (length (now clocks) ≡ 3072)
-        × WiredTo N (now ends) (now froms) (now clocks) (3 * x)) }
-    ensures { λ N _. ⌜ WiredTo N (now (ends .exit)) (now (froms .exit)) (now (clocks .exit)) (3 * x + 3) ⌝ }
+    requires { λ N. opened 𝓤 (now file) (now net) N (Timed N (now timing) × (x < size N)
+        × (length (now wires) ≡ 10240) × Entered N (now wires) (3 * x)) }
+    ensures { λ N _. ⌜ Entered N (now (wires .exit)) (3 * x + 3) × (headsIn (now (wires .exit)) ≡ headsIn (now (wires .entry))) ⌝ }
 {
     let n = wires_to(file, net, x);
     let mut p: usize = 0;
     while p < n {
-        enter_wire(file, net, leads, roots, passes, x, p, ends, froms, clocks);
+        enter_wire(file, net, timing, x, p, wires);
         p = p + 1;
     }
 }
 
 // Enters all wires.
-pub fn enter_wires(
-    file: &[u8],
-    net: &[u16],
-    leads: &[u16],
-    roots: &[u16],
-    passes: &[u16],
-    ends: &mut [u16],
-    froms: &mut [u16],
-    clocks: &mut [u16],
-)
+pub fn enter_wires(file: &[u8], net: &[u16], timing: &[u16], wires: &mut [u16])
     ghost { Net }
-    requires { λ N. opened 𝓤 (now file) (now net) N (Ready N (now leads) (now roots) (now passes)
-        × (length (now ends) ≡ 3072) × (length (now froms) ≡ 3072) × (length (now clocks) ≡ 3072)
-        × WiredTo N (now ends) (now froms) (now clocks) 0) }
-    ensures { λ N _. ⌜ WiredTo N (now (ends .exit)) (now (froms .exit)) (now (clocks .exit)) (3 * size N) ⌝ }
+    requires { λ N. opened 𝓤 (now file) (now net) N (Timed N (now timing)
+        × (length (now wires) ≡ 10240) × Entered N (now wires) 0) }
+    ensures { λ N _. ⌜ Entered N (now (wires .exit)) (3 * size N) × (headsIn (now (wires .exit)) ≡ headsIn (now (wires .entry))) ⌝ }
 {
     let n = node_count(file, net);
     let mut x: usize = 0;
     while x < n {
-        enter_node(file, net, leads, roots, passes, x, ends, froms, clocks);
+        enter_node(file, net, timing, x, wires);
         x = x + 1;
     }
 }

@@ -1,4 +1,7 @@
 // The wires of each ROM, linked from the first to the last, so that its reset words are found without a look at all wires.
+use super::CLOCKS;
+use super::ENDS;
+use super::HEADS;
 use areas::number_at;
 use areas::put_number;
 use circuit::wide;
@@ -6,30 +9,33 @@ ghost use mathlib.Core.Path.{_≡_};
 ghost use mathlib.Core.List.{List};
 ghost use Prim.Native.Nat.{ℕ, _+_, _<_, _≤_};
 ghost use lib.ListN.{length};
+ghost use Rattle.wiring.specs.Wiring.{endsIn, clocksIn, headsIn};
 ghost use Rattle.wiring.specs.Links.{LinkedFrom};
 
 // Links wire k, where it has a clock, with the next one that ends at the same node. Its link stands where its clock stood.
-fn link(ends: &[u16], wires: usize, k: usize, heads: &mut [u16], links: &mut [u16])
-    requires { ⌜ (wires ≤ 3072) × (k < wires) × (1024 ≤ length (now heads)) × (length (now links) ≡ 3072) ⌝ }
-    ensures { λ _. ⌜ ((clocks : List ℕ) → LinkedFrom (now (ends .entry)) clocks wires (now (heads .entry)) (now (links .entry)) (k + 1)
-        → LinkedFrom (now (ends .entry)) clocks wires (now (heads .exit)) (now (links .exit)) k) ⌝ }
+fn link(wires: &mut [u16], count: usize, k: usize)
+    requires { ⌜ (count ≤ 3072) × (k < count) × (length (now wires) ≡ 10240) ⌝ }
+    ensures { λ _. ⌜ ((clocks : List ℕ) → LinkedFrom (endsIn (now (wires .entry))) clocks count (headsIn (now (wires .entry))) (clocksIn (now (wires .entry))) (k + 1)
+        → LinkedFrom (endsIn (now (wires .entry))) clocks count (headsIn (now (wires .exit))) (clocksIn (now (wires .exit))) k)
+        × (endsIn (now (wires .exit)) ≡ endsIn (now (wires .entry))) ⌝ }
 {
-    if number_at(links, k) < 65535 {
-        let u = wide(number_at(ends, k));
-        put_number(links, k, number_at(heads, u));
-        put_number(heads, u, k as u16);
+    if number_at(wires, CLOCKS + k) < 65535 {
+        let u = wide(number_at(wires, ENDS + k));
+        put_number(wires, CLOCKS + k, number_at(wires, HEADS + u));
+        put_number(wires, HEADS + u, k as u16);
     }
 }
 
 // Links all wires that have a clock.
-pub fn link_wires(ends: &[u16], wires: usize, heads: &mut [u16], links: &mut [u16])
-    requires { ⌜ (wires ≤ 3072) × (1024 ≤ length (now heads)) × (length (now links) ≡ 3072)
-        × LinkedFrom (now ends) (now links) wires (now heads) (now links) wires ⌝ }
-    ensures { λ _. ⌜ LinkedFrom (now (ends .entry)) (now (links .entry)) wires (now (heads .exit)) (now (links .exit)) 0 ⌝ }
+pub fn link_wires(wires: &mut [u16], count: usize)
+    requires { ⌜ (count ≤ 3072) × (length (now wires) ≡ 10240)
+        × LinkedFrom (endsIn (now wires)) (clocksIn (now wires)) count (headsIn (now wires)) (clocksIn (now wires)) count ⌝ }
+    ensures { λ _. ⌜ LinkedFrom (endsIn (now (wires .entry))) (clocksIn (now (wires .entry))) count (headsIn (now (wires .exit))) (clocksIn (now (wires .exit))) 0
+        × (endsIn (now (wires .exit)) ≡ endsIn (now (wires .entry))) ⌝ }
 {
-    let mut k = wires;
+    let mut k = count;
     while 0 < k {
         k = k - 1;
-        link(ends, wires, k, heads, links);
+        link(wires, count, k);
     }
 }

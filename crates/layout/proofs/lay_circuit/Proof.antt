@@ -12,22 +12,22 @@ use Rattle.layout.proofs.lay_circuit.Statement.{statement}
 use Rattle.layout.proofs.lay_circuit.Tie as tie
 
 abbrev Inv-loop : tie.InvT-loop
-Inv-loop file net entries total owners words sources new₀ i₀ new i = (length new ≡ length new₀) × Building (tablesOf net) (rewritten (netOf file net) .nodes) new i
+Inv-loop file net made plan words new₀ total i₀ new i = (length new ≡ length new₀) × Building (tablesOf net) (rewritten (netOf file net) .nodes) new i
 
 abbrev μ-loop : tie.MeasureT-loop
-μ-loop file net entries total owners words sources new₀ i₀ new i = total - i
+μ-loop file net made plan words new₀ total i₀ new i = total - i
 
 copy-head-requires : tie.Need-copy-head-requires Inv-loop μ-loop
-copy-head-requires c κs = let p = c .before .before .before .before .before .before .before .pre in (p .0, p .1 .2)
+copy-head-requires c κs = let p = c .before .before .before .before .before .before .pre in (p .0, p .1 .2)
 
 loop-holds : tie.Need-loop-holds Inv-loop μ-loop
-loop-holds c = let a = c .before .before .before .before .before .before .before .before .before .before .args in (refl, building-none (rewritten (netOf (a .file .now) (a .net .now)) .nodes) (c .before .before .copy-head .ensures))
+loop-holds c = let a = c .before .before .before .before .before .before .before .before .before .args in (refl, building-none (rewritten (netOf (a .file .now) (a .net .now)) .nodes) (c .before .before .copy-head .ensures))
 
 planned-row-requires : tie.Need-planned-row-requires Inv-loop μ-loop
-planned-row-requires c κs = let p = c .before .before .before .before .before .before .before .before .before .before .before .before .before .pre in (p .0, (p .1 .0, p .1 .1, c .before .loop-test .taken))
+planned-row-requires c κs = let p = c .before .before .before .before .before .before .before .before .before .before .before .before .pre in (p .0, (p .1 .0, p .1 .1, c .before .loop-test .taken))
 
 push-row-requires : tie.Need-push-row-requires Inv-loop μ-loop
-push-row-requires c κs = let p = c .before .before .before .before .before .before .before .before .before .before .before .before .before .before .pre in let k = c .before .before .before .loop .inv .1 in (k .built .formed, building-size k, omega (arith, c .before .before .loop-test .taken, p .1 .1), c .planned-row .ensures .0)
+push-row-requires c κs = let p = c .before .before .before .before .before .before .before .before .before .before .before .before .before .pre in let k = c .before .before .before .loop .inv .1 in (k .built .formed, building-size k, omega (arith, c .before .before .loop-test .taken, p .1 .1), c .planned-row .ensures .0)
 
 add-i : tie.Need-add-i Inv-loop μ-loop
 add-i c = search needs
@@ -36,13 +36,13 @@ loop-less : tie.Need-loop-less Inv-loop μ-loop
 loop-less c = search needs
 
 loop-again : tie.Need-loop-again Inv-loop μ-loop
-loop-again c = let a = c .before .before .before .before .before .before .before .before .before .before .before .before .before .before .before .before .before .args in let p = c .before .before .before .before .before .before .before .before .before .before .before .before .before .before .before .before .before .pre in let N = netOf (a .file .now) (a .net .now) in let k = c .before .before .before .before .before .before .loop .inv in let h = c .before .before .before .before .before .loop-test .taken in (c .before .before .push-row .kept .0 ∙ k .0, building-more (k .1) (omega (arith, h, new-count N, p .1 .0 .count)) (new-node N (c .before .before .before .before .before .before .loop .i) (omega (arith, h, p .1 .0 .count)) (c .before .before .before .planned-row .ensures .1)) (c .before .before .push-row .ensures))
+loop-again c = let a = c .before .before .before .before .before .before .before .before .before .before .before .before .before .before .before .before .args in let p = c .before .before .before .before .before .before .before .before .before .before .before .before .before .before .before .before .pre in let N = netOf (a .file .now) (a .net .now) in let k = c .before .before .before .before .before .before .loop .inv in let h = c .before .before .before .before .before .loop-test .taken in (c .before .before .push-row .kept .0 ∙ k .0, building-more (k .1) (omega (arith, h, new-count N, p .1 .0 .count)) (new-node N (c .before .before .before .before .before .before .loop .i) (omega (arith, h, p .1 .0 .count)) (c .before .before .before .planned-row .ensures .1)) (c .before .before .push-row .ensures))
 
 same-length : tie.Need-same-length Inv-loop μ-loop
 same-length c = c .before .loop .inv .0 ∙ c .before .before .before .before .copy-head .kept .1 .1 .0
 
 returns : tie.Need-returns Inv-loop μ-loop
-returns c = let a = c .before .before .before .before .before .before .before .before .before .before .before .before .args in let p = c .before .before .before .before .before .before .before .before .before .before .before .before .pre in let N = netOf (a .file .now) (a .net .now) in laid refl (p .0) (building-done (c .before .loop .inv .1) (omega (arith, c .loop-test .left, new-count N, p .1 .0 .count)))
+returns c = let a = c .before .before .before .before .before .before .before .before .before .before .before .args in let p = c .before .before .before .before .before .before .before .before .before .before .before .pre in let N = netOf (a .file .now) (a .net .now) in laid refl (p .0) (building-done (c .before .loop .inv .1) (omega (arith, c .loop-test .left, new-count N, p .1 .0 .count)))
 
 pub lay-circuit-spec : {M : Type 1} → statement M
 lay-circuit-spec =

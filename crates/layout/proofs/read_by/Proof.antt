@@ -1,33 +1,43 @@
 -- The number, or 0.
 use mathlib.Core.Path.{sym, ap, _∙_}
 use mathlib.Core.Bool.{Bool, cond}
-use Prim.Native.Nat.{_+_}
-use native.Mathlib.Omega.{arith}
+use Prim.Native.Nat.{_+_, _*_}
 use lib.ListN.{getD}
 use borrow.Author.Needs.{needs}
 use borrow.Author.Tests.{lt-ltb, le-ltb}
+use Rattle.plan.specs.Areas.{sourcesIn}
+use Rattle.layout.specs.PlannedNode.{source-read}
 use Rattle.layout.proofs.read_by.Statement.{statement}
 use Rattle.layout.proofs.read_by.Tie as tie
 
+mul-number-at : tie.Need-mul-number-at
+mul-number-at c = search needs
+
 add-number-at : tie.Need-add-number-at
-add-number-at c = omega (arith, c .before .before .pre .0, c .before .before .pre .1)
+add-number-at c = search needs
+
+add-number-at-2 : tie.Need-add-number-at-2
+add-number-at-2 c = search needs
 
 number-at-requires : tie.Need-number-at-requires
 number-at-requires c κs = search needs
 
 returns : tie.Need-returns
-returns c = let a = c .before .before .before .args in
-    c .number-at .ensures ∙ sym (ap (λ (b : Bool). cond b (getD (a .sources .now) (a .at + a .p) 0) 0) (lt-ltb (a .p) (a .n) (c .before .if1 .taken)))
+returns c = let a = c .before .before .before .args in let h = c .before .before .before .pre in
+    c .number-at .ensures ∙ source-read (a .plan .now) (a .i) (a .p) (h .0) (h .1)
+    ∙ sym (ap (λ (b : Bool). cond b (getD (sourcesIn (a .plan .now)) (3 * a .i + a .p) 0) 0) (lt-ltb (a .p) (a .n) (c .before .if1 .taken)))
 
 returns-2 : tie.Need-returns-2
 returns-2 c = let a = c .before .before .args in
-    sym (ap (λ (b : Bool). cond b (getD (a .sources .now) (a .at + a .p) 0) 0) (le-ltb (a .p) (a .n) (c .if1 .left)))
+    sym (ap (λ (b : Bool). cond b (getD (sourcesIn (a .plan .now)) (3 * a .i + a .p) 0) 0) (le-ltb (a .p) (a .n) (c .if1 .left)))
 
 pub read-by-spec : {M : Type 1} → statement M
 read-by-spec =
     tie.close
     (tie.spec
+    mul-number-at
     add-number-at
+    add-number-at-2
     number-at-requires
     returns
     returns-2)

@@ -1,9 +1,12 @@
 -- A register that waits is traced with all that wait on its wire; any other node is traced already.
-use mathlib.Core.Path.{_∙_}
-use Rattle.wires.specs.TracedLaws.{traced-already}
+use mathlib.Core.Path.{refl, _∙_}
+use Rattle.wires.specs.TracedLaws.{pass-at, traced-already}
 use borrow.Author.Needs.{needs}
 use Rattle.wires.proofs.trace.Statement.{statement}
 use Rattle.wires.proofs.trace.Tie as tie
+
+add-number-at : tie.Need-add-number-at
+add-number-at c = search needs
 
 number-at-requires : tie.Need-number-at-requires
 number-at-requires c κs = search needs
@@ -17,29 +20,28 @@ set-back-requires c κs = search needs
 same-length : tie.Need-same-length
 same-length c = search needs
 
-same-length-2 : tie.Need-same-length-2
-same-length-2 c = search needs
-
 returns : tie.Need-returns
 returns c = search needs
 
-same-length-3 : tie.Need-same-length-3
-same-length-3 c = search needs
+same-length-2 : tie.Need-same-length-2
+same-length-2 c = search needs
 
 returns-2 : tie.Need-returns-2
 returns-2 c =
-    let p = c .before .before .before .before .before .before .before .pre in
-    (p .1 .3, record { here = traced-already _ (p .1 .3) (p .1 .2) (λ e. c .if1 .left (c .before .number-at .ensures ∙ e)); still = λ s t. t })
+    let s = c .before .before .before .before .before .before in
+    let p = s .pre in
+    let t = traced-already _ (p .1 .3) (p .1 .2) (λ e. c .if1 .left (pass-at (s .args .timing .now) (s .args .v) (p .1 .2) (p .0 .few) (c .before .number-at .ensures) ∙ e)) in
+    (p .1 .3, record { here = t; still = λ s t. t }, refl)
 
 pub trace-spec : {M : Type 1} → statement M
 trace-spec =
     tie.close
     (tie.spec
+    add-number-at
     number-at-requires
     wire-of-requires
     set-back-requires
     same-length
-    same-length-2
     returns
-    same-length-3
+    same-length-2
     returns-2)

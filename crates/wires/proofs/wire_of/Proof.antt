@@ -4,18 +4,21 @@ use native.Mathlib.Omega.{arith}
 use borrow.Author.Needs.{needs}
 use Rattle.circuit.specs.Circuit.{netOf}
 use Rattle.retiming.specs.Rewrite.{passed}
-use Rattle.wires.specs.TracedLaws.{Back, passed-few, back-more, back-waiting, traced-already}
+use Rattle.wires.specs.TracedLaws.{root-at, pass-at, Back, passed-few, back-more, back-waiting, traced-already}
 use Rattle.wires.proofs.wire_of.Statement.{statement}
 use Rattle.wires.proofs.wire_of.Tie as tie
 
 abbrev Inv-loop : tie.InvT-loop
-Inv-loop file net v roots passes u₀ count₀ u count = Back (netOf file net) v u count
+Inv-loop file net v timing u₀ count₀ u count = Back (netOf file net) v u count
 
 abbrev μ-loop : tie.MeasureT-loop
-μ-loop file net v roots passes u₀ count₀ u count = passed (netOf file net) u
+μ-loop file net v timing u₀ count₀ u count = passed (netOf file net) u
 
 loop-holds : tie.Need-loop-holds Inv-loop μ-loop
 loop-holds c = search needs
+
+add-number-at : tie.Need-add-number-at Inv-loop μ-loop
+add-number-at c = omega (arith, c .loop .inv .inside, c .before .before .before .before .pre .0 .few)
 
 number-at-requires : tie.Need-number-at-requires Inv-loop μ-loop
 number-at-requires c κs = search needs
@@ -25,37 +28,50 @@ source-of-requires c κs = search needs
 
 add-count : tie.Need-add-count Inv-loop μ-loop
 add-count c =
-    let a = c .before .before .before .before .before .before .before .before .args in
-    omega (arith, c .before .before .before .loop .inv .more, passed-few (netOf (a .file .now) (a .net .now)) (a .v), c .before .before .before .before .before .before .before .before .pre .0 .few)
+    let s = c .before .before .before .before .before .before .before in
+    omega (arith, c .before .before .before .loop .inv .more, passed-few (netOf (s .args .file .now) (s .args .net .now)) (s .args .v), s .pre .0 .few)
 
 loop-less : tie.Need-loop-less Inv-loop μ-loop
 loop-less c =
-    let p = c .before .before .before .before .before .before .before .before .pre in
-    omega (arith, back-waiting _ (p .1 .3) (c .before .before .before .loop .inv .inside) (p .1 .0) (p .1 .1) (p .0 .few) (sym (c .before .before .number-at .ensures) ∙ c .before .if1 .taken) (c .source-of .ensures .0) .more)
+    let s = c .before .before .before .before .before .before .before in
+    let l = c .before .before .before .loop in
+    let m = sym (pass-at (s .args .timing .now) (l .u) (l .inv .inside) (s .pre .0 .few) (c .before .before .number-at .ensures)) ∙ c .before .if1 .taken in
+    omega (arith, back-waiting _ (s .pre .1 .3) (l .inv .inside) (s .pre .1 .0) (s .pre .1 .1) (s .pre .0 .few) m (c .source-of .ensures .0) .more)
 
 loop-again : tie.Need-loop-again Inv-loop μ-loop
 loop-again c =
-    let p = c .before .before .before .before .before .before .before .before .pre in
-    back-more (c .before .before .before .loop .inv) (back-waiting _ (p .1 .3) (c .before .before .before .loop .inv .inside) (p .1 .0) (p .1 .1) (p .0 .few) (sym (c .before .before .number-at .ensures) ∙ c .before .if1 .taken) (c .source-of .ensures .0))
+    let s = c .before .before .before .before .before .before .before in
+    let l = c .before .before .before .loop in
+    let m = sym (pass-at (s .args .timing .now) (l .u) (l .inv .inside) (s .pre .0 .few) (c .before .before .number-at .ensures)) ∙ c .before .if1 .taken in
+    back-more (l .inv) (back-waiting _ (s .pre .1 .3) (l .inv .inside) (s .pre .1 .0) (s .pre .1 .1) (s .pre .0 .few) m (c .source-of .ensures .0))
+
+add-number-at-2 : tie.Need-add-number-at-2 Inv-loop μ-loop
+add-number-at-2 c = omega (arith, c .before .before .loop .inv .inside, c .before .before .before .before .before .before .pre .0 .few)
 
 number-at-requires-2 : tie.Need-number-at-requires-2 Inv-loop μ-loop
 number-at-requires-2 c κs = search needs
 
+add-number-at-3 : tie.Need-add-number-at-3 Inv-loop μ-loop
+add-number-at-3 c = omega (arith, c .before .before .before .loop .inv .inside, c .before .before .before .before .before .before .before .pre .0 .few)
+
 number-at-requires-3 : tie.Need-number-at-requires-3 Inv-loop μ-loop
 number-at-requires-3 c κs = search needs
 
-add-t12 : tie.Need-add-t12 Inv-loop μ-loop
-add-t12 c =
-    let k = c .before .before .before .before .loop .inv in
-    let t = traced-already _ (c .before .before .before .before .before .before .before .before .before .pre .1 .3) (k .inside) (λ e. c .before .before .if1 .left (c .before .before .before .number-at .ensures ∙ e)) in
-    let a = c .before .before .before .before .before .before .before .before .before .args in
-    omega (arith, passed-few (netOf (a .file .now) (a .net .now)) (a .v), c .before .before .before .before .before .before .before .before .before .pre .0 .few, c .number-at3 .ensures)
+add-t14 : tie.Need-add-t14 Inv-loop μ-loop
+add-t14 c =
+    let s = c .before .before .before .before .before .before .before .before in
+    let l = c .before .before .before .before .loop in
+    let t = traced-already _ (s .pre .1 .3) (l .inv .inside) (λ e. c .before .before .if1 .left (pass-at (s .args .timing .now) (l .u) (l .inv .inside) (s .pre .0 .few) (c .before .before .before .number-at .ensures) ∙ e)) in
+    omega (arith, l .inv .more, passed-few (netOf (s .args .file .now) (s .args .net .now)) (s .args .v), s .pre .0 .few, pass-at (s .args .timing .now) (l .u) (l .inv .inside) (s .pre .0 .few) (c .number-at3 .ensures), t .through)
 
 returns : tie.Need-returns Inv-loop μ-loop
 returns c =
-    let k = c .before .before .before .before .loop .inv in
-    let t = traced-already _ (c .before .before .before .before .before .before .before .before .before .pre .1 .3) (k .inside) (λ e. c .before .before .if1 .left (c .before .before .before .number-at .ensures ∙ e)) in
-    (c .before .number-at2 .ensures ∙ t .from ∙ sym (k .same-root), omega (arith, c .number-at3 .ensures))
+    let s = c .before .before .before .before .before .before .before .before in
+    let l = c .before .before .before .before .loop in
+    let t = traced-already _ (s .pre .1 .3) (l .inv .inside) (λ e. c .before .before .if1 .left (pass-at (s .args .timing .now) (l .u) (l .inv .inside) (s .pre .0 .few) (c .before .before .before .number-at .ensures) ∙ e)) in (
+      root-at (s .args .timing .now) (l .u) (l .inv .inside) (s .pre .0 .few) (c .before .number-at2 .ensures) ∙ t .from ∙ sym (l .inv .same-root),
+      omega (arith, l .inv .more, pass-at (s .args .timing .now) (l .u) (l .inv .inside) (s .pre .0 .few) (c .number-at3 .ensures), t .through),
+    )
 
 pub wire-of-spec : {M : Type 1} → statement M
 wire-of-spec =
@@ -64,12 +80,15 @@ wire-of-spec =
     Inv-loop
     μ-loop
     loop-holds
+    add-number-at
     number-at-requires
     source-of-requires
     add-count
     loop-less
     loop-again
+    add-number-at-2
     number-at-requires-2
+    add-number-at-3
     number-at-requires-3
-    add-t12
+    add-t14
     returns)

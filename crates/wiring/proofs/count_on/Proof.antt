@@ -1,16 +1,22 @@
--- The formula, over what the work areas hold.
+-- The formula, over what the work area holds.
 use mathlib.Core.Path.{_∙_}
 use native.Mathlib.Omega.{arith}
-use Rattle.wiring.specs.WiringLaws.{root-inside, counted, count-few}
+use Rattle.wiring.specs.WiringLaws.{root-inside, counted, count-few, root-read, passed-read}
 use borrow.Author.Needs.{needs}
 use Rattle.wiring.proofs.count_on.Statement.{statement}
 use Rattle.wiring.proofs.count_on.Tie as tie
+
+add-number-at : tie.Need-add-number-at
+add-number-at c = search needs
 
 number-at-requires : tie.Need-number-at-requires
 number-at-requires c κs = search needs
 
 wide-requires : tie.Need-wide-requires
 wide-requires c κs = search needs
+
+add-number-at-2 : tie.Need-add-number-at-2
+add-number-at-2 c = search needs
 
 number-at-requires-2 : tie.Need-number-at-requires-2
 number-at-requires-2 c κs = search needs
@@ -20,8 +26,8 @@ wide-requires-2 c κs = search needs
 
 clocked-rom-requires : tie.Need-clocked-rom-requires
 clocked-rom-requires c κs =
-    let p = c .before .before .before .before .before .before .before .before .before .pre in
-    (p .0, root-inside (p .1 .0) (p .1 .2) (c .before .before .wide .ensures .0 ∙ c .before .before .before .number-at .ensures))
+    let p = c .before .before .before .before .before .before .before .pre in
+    (p .0, root-inside (p .1 .0) (p .1 .2) (c .before .before .wide .ensures .0 ∙ c .before .before .before .number-at .ensures ∙ root-read (p .1 .0) (p .1 .2)))
 
 add-before : tie.Need-add-before
 add-before c = search needs
@@ -46,17 +52,17 @@ minus-requires c κs = search needs
 
 memory-bit-requires : tie.Need-memory-bit-requires
 memory-bit-requires c κs =
-    let p = c .before .before .before .before .before .before .before .before .before .before .before .before .before .before .before .pre in
-    (p .0, root-inside (p .1 .0) (p .1 .2) (c .before .before .before .before .before .before .before .before .wide .ensures .0 ∙ c .before .before .before .before .before .before .before .before .before .number-at .ensures))
+    let p = c .before .before .before .before .before .before .before .before .before .before .before .before .before .pre in
+    (p .0, root-inside (p .1 .0) (p .1 .2) (c .before .before .before .before .before .before .before .before .wide .ensures .0 ∙ c .before .before .before .before .before .before .before .before .before .number-at .ensures ∙ root-read (p .1 .0) (p .1 .2)))
 
 minus-requires-2 : tie.Need-minus-requires-2
 minus-requires-2 c κs = search needs
 
 returns : tie.Need-returns
 returns c =
-    let t = c .before .before .before .before .before .before .before .before .before .before .before .before .before .before .before .before .before .pre .1 in
-    let u = c .before .before .before .before .before .before .before .before .before .before .wide .ensures .0 ∙ c .before .before .before .before .before .before .before .before .before .before .before .number-at .ensures in
-    let p = c .before .before .before .before .before .before .before .before .wide2 .ensures .0 ∙ c .before .before .before .before .before .before .before .before .before .number-at2 .ensures in
+    let t = c .before .before .before .before .before .before .before .before .before .before .before .before .before .before .before .pre .1 in
+    let u = c .before .before .before .before .before .before .before .before .before .before .wide .ensures .0 ∙ c .before .before .before .before .before .before .before .before .before .before .before .number-at .ensures ∙ root-read (t .0) (t .2) in
+    let p = c .before .before .before .before .before .before .before .before .wide2 .ensures .0 ∙ c .before .before .before .before .before .before .before .before .before .number-at2 .ensures ∙ passed-read (t .0) (t .2) in
     let o = c .before .before .before .before .before .before .before .clocked-rom .ensures .0 in
     let l = c .before .before .before .before .before .wide3 .ensures .0 ∙ c .before .before .before .before .before .before .number-at3 .ensures in
     let x = c .before .before .before .wide4 .ensures .0 ∙ c .before .before .before .before .number-at4 .ensures in
@@ -68,8 +74,10 @@ pub count-on-spec : {M : Type 1} → statement M
 count-on-spec =
     tie.close
     (tie.spec
+    add-number-at
     number-at-requires
     wide-requires
+    add-number-at-2
     number-at-requires-2
     wide-requires-2
     clocked-rom-requires

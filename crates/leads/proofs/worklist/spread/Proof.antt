@@ -1,4 +1,4 @@
--- The loop's invariant: each lead is some walk's excess. Nothing is said of the stack but its length.
+-- The loop's invariant: each lead is some walk's excess. Each raise lowers what is left to raise by one at least, and puts three nodes on the stack at most.
 use mathlib.Core.Path.{_≡_, refl, sym, _∙_}
 use Prim.Native.Nat.{ℕ, _+_, _*_}
 use native.Mathlib.Omega.{arith}
@@ -10,10 +10,13 @@ use Rattle.leads.proofs.worklist.spread.Statement.{statement}
 use Rattle.leads.proofs.worklist.spread.Tie as tie
 
 abbrev Inv-loop : tie.InvT-loop
-Inv-loop file net bound leads₀ work₀ depth₀ leads work depth = (length leads ≡ length leads₀) × (length work ≡ 2048) × Walked (netOf file net) leads
+Inv-loop file net bound leads₀ n work₀ depth₀ leads work depth = (length leads ≡ length leads₀) × (length work ≡ 2048) × Walked (netOf file net) leads
 
 abbrev μ-loop : tie.MeasureT-loop
-μ-loop file net bound leads₀ work₀ depth₀ leads work depth = depth + 4 * left (netOf file net) leads
+μ-loop file net bound leads₀ n work₀ depth₀ leads work depth = depth + 4 * left (netOf file net) leads
+
+node-count-requires : tie.Need-node-count-requires Inv-loop μ-loop
+node-count-requires c κs = search needs
 
 slice-aggregate-push-order : tie.Need-slice-aggregate-push-order Inv-loop μ-loop
 slice-aggregate-push-order c = search needs
@@ -22,13 +25,13 @@ push-order-requires : tie.Need-push-order-requires Inv-loop μ-loop
 push-order-requires c κs = search needs
 
 loop-holds : tie.Need-loop-holds Inv-loop μ-loop
-loop-holds c = (refl, c .before .push-order .kept .1 .1 .0 ∙ length-replicate {A = ℕ} 2048 0, c .before .before .before .before .before .before .pre .1 .2)
+loop-holds c = (refl, c .before .push-order .kept .1 .1 .0 ∙ length-replicate {A = ℕ} 2048 0, c .before .before .before .before .before .before .before .pre .1 .2)
+
+sub-depth : tie.Need-sub-depth Inv-loop μ-loop
+sub-depth c = search needs
 
 slice-aggregate-number-at : tie.Need-slice-aggregate-number-at Inv-loop μ-loop
 slice-aggregate-number-at c = sym (c .before .before .loop .inv .1)
-
-sub-number-at : tie.Need-sub-number-at Inv-loop μ-loop
-sub-number-at c = search needs
 
 number-at-requires : tie.Need-number-at-requires Inv-loop μ-loop
 number-at-requires c κs = search needs
@@ -36,31 +39,67 @@ number-at-requires c κs = search needs
 wide-requires : tie.Need-wide-requires Inv-loop μ-loop
 wide-requires c κs = search needs
 
-slice-aggregate-visit : tie.Need-slice-aggregate-visit Inv-loop μ-loop
-slice-aggregate-visit c = sym (c .before .before .before .before .before .before .loop .inv .1)
-
-sub-visit : tie.Need-sub-visit Inv-loop μ-loop
-sub-visit c = search needs
-
-visit-requires : tie.Need-visit-requires Inv-loop μ-loop
-visit-requires c κs =
-    let p = c .before .before .before .before .before .before .before .before .before .before .before .before .before .pre in
-    (p .0, (p .1 .0, p .1 .1, c .before .before .before .before .before .before .loop .inv .2))
-
 loop-less : tie.Need-loop-less Inv-loop μ-loop
-loop-less c = omega (arith, c .before .before .before .visit .ensures .1)
+loop-less c = search needs
 
 loop-again : tie.Need-loop-again Inv-loop μ-loop
-loop-again c =
-    let k = c .before .before .before .before .before .before .before .before .before .before .loop .inv in
-    let r = c .before .before .before .visit in
-    (r .kept .1 .1 .1 .1 .0 ∙ k .0, r .kept .1 .1 .1 .1 .1 .0 ∙ k .1, r .ensures .0)
+loop-again c = c .before .before .before .before .before .loop .inv
+
+number-at-requires-2 : tie.Need-number-at-requires-2 Inv-loop μ-loop
+number-at-requires-2 c κs = search needs
+
+wide-requires-2 : tie.Need-wide-requires-2 Inv-loop μ-loop
+wide-requires-2 c κs = search needs
 
 same-length : tie.Need-same-length Inv-loop μ-loop
-same-length c = c .before .loop .inv .0
+same-length c = c .before .before .before .before .before .before .before .before .before .loop .inv .0
 
 returns : tie.Need-returns Inv-loop μ-loop
-returns c = c .before .loop .inv .2
+returns c = c .before .before .before .before .before .before .before .before .before .loop .inv .2
+
+slice-aggregate-put-number : tie.Need-slice-aggregate-put-number Inv-loop μ-loop
+slice-aggregate-put-number c = sym (c .before .before .before .before .before .before .before .before .before .before .loop .inv .1)
+
+add-put-number : tie.Need-add-put-number Inv-loop μ-loop
+add-put-number c = search needs
+
+put-number-requires : tie.Need-put-number-requires Inv-loop μ-loop
+put-number-requires c κs = search needs
+
+relax-requires : tie.Need-relax-requires Inv-loop μ-loop
+relax-requires c κs =
+    let p = c .before .before .before .before .before .before .before .before .before .before .before .before .before .before .before .before .before .before .before .before .before .pre in
+    (p .0, (p .1 .0, p .1 .1, omega (arith, c .before .before .before .before .before .before .before .before .before .before .before .before .before .before .before .before .before .node-count .ensures .0, c .before .before .before .before .before .before .before .before .if1 .left), c .before .before .before .before .before .before .before .before .before .before .before .before .before .loop .inv .2))
+
+loop-less-2 : tie.Need-loop-less-2 Inv-loop μ-loop
+loop-less-2 c = omega (arith, c .before .before .before .relax .ensures .1 .falls, c .before .before .before .before .before .before .before .before .before .before .before .before .before .before .before .before .loop-test .taken)
+
+loop-again-2 : tie.Need-loop-again-2 Inv-loop μ-loop
+loop-again-2 c =
+    let k = c .before .before .before .before .before .before .before .before .before .before .before .before .before .before .before .before .before .loop .inv in
+    let r = c .before .before .before .relax in
+    (r .kept .1 .1 .1 .1 .0 ∙ k .0, c .before .before .before .before .before .before .put-number .kept .0 ∙ k .1, r .ensures .1 .walked)
+
+slice-aggregate-push-sources : tie.Need-slice-aggregate-push-sources Inv-loop μ-loop
+slice-aggregate-push-sources c = sym (c .before .before .before .before .before .before .before .put-number .kept .0 ∙ c .before .before .before .before .before .before .before .before .before .before .before .before .before .before .before .before .before .before .loop .inv .1)
+
+push-sources-requires : tie.Need-push-sources-requires Inv-loop μ-loop
+push-sources-requires c κs = (c .before .before .before .before .before .before .before .before .before .before .before .before .before .before .before .before .before .before .before .before .before .before .before .before .before .before .pre .0, omega (arith, c .before .before .before .before .before .before .before .before .before .before .before .before .before .before .before .before .before .before .before .before .before .before .node-count .ensures .0, c .before .before .before .before .before .before .before .before .before .before .before .before .before .if1 .left))
+
+loop-less-3 : tie.Need-loop-less-3 Inv-loop μ-loop
+loop-less-3 c = omega (arith, c .before .push-sources .ensures, c .before .before .before .if3 .left, c .before .before .before .before .before .before .relax .ensures .1 .falls, c .before .before .before .before .before .before .before .before .before .before .before .before .before .before .before .before .before .before .before .loop-test .taken)
+
+loop-again-3 : tie.Need-loop-again-3 Inv-loop μ-loop
+loop-again-3 c =
+    let k = c .before .before .before .before .before .before .before .before .before .before .before .before .before .before .before .before .before .before .before .before .loop .inv in
+    let r = c .before .before .before .before .before .before .relax in
+    (r .kept .1 .1 .1 .1 .0 ∙ k .0, c .before .push-sources .kept .1 .1 .1 .0 ∙ c .before .before .before .before .before .before .before .before .before .put-number .kept .0 ∙ k .1, r .ensures .1 .walked)
+
+same-length-2 : tie.Need-same-length-2 Inv-loop μ-loop
+same-length-2 c = c .before .loop .inv .0
+
+returns-2 : tie.Need-returns-2 Inv-loop μ-loop
+returns-2 c = c .before .loop .inv .2
 
 pub spread-spec : {M : Type 1} → statement M
 spread-spec =
@@ -68,17 +107,29 @@ spread-spec =
     (tie.spec
     Inv-loop
     μ-loop
+    node-count-requires
     slice-aggregate-push-order
     push-order-requires
     loop-holds
+    sub-depth
     slice-aggregate-number-at
-    sub-number-at
     number-at-requires
     wide-requires
-    slice-aggregate-visit
-    sub-visit
-    visit-requires
     loop-less
     loop-again
+    number-at-requires-2
+    wide-requires-2
     same-length
-    returns)
+    returns
+    slice-aggregate-put-number
+    add-put-number
+    put-number-requires
+    relax-requires
+    loop-less-2
+    loop-again-2
+    slice-aggregate-push-sources
+    push-sources-requires
+    loop-less-3
+    loop-again-3
+    same-length-2
+    returns-2)

@@ -5,27 +5,43 @@ use native.Mathlib.Omega.{arith}
 use mathlib.Core.Logic.{⊎-elim}
 use lib.ListN.{length, getD}
 use Rattle.lists.specs.BelowLaws.{lt-or-le}
+use Rattle.lists.specs.Sections.{section-read}
+use Rattle.wiring.specs.Wiring.{endsIn, clocksIn}
 use Rattle.wiring.specs.Links.{From}
 use borrow.Author.Needs.{needs}
+use Rattle.plan.specs.Areas.{ownersIn, wordsIn, lateIn, firstsIn}
 use Rattle.plan.specs.Entries.{AddsAll}
 use Rattle.plan.specs.EntriesLaws.{adds-none, adds-more, adds-to}
 use Rattle.plan.proofs.entries.add_copies.Statement.{statement}
 use Rattle.plan.proofs.entries.add_copies.Tie as tie
 
 abbrev Inv-loop : tie.InvT-loop
-Inv-loop ends copied links wires u head first owners₀ words₀ count₀ k₀ owners words count k = (length owners ≡ length owners₀) × (length words ≡ length words₀) × (first ≤ count) × (k < wires → (getD ends k 0 ≡ u) × AddsAll u first k count ends copied owners₀ words₀ owners words) × (wires ≤ k → AddsAll u first wires count ends copied owners₀ words₀ owners words)
+Inv-loop wires copied count u head first plan₀ next₀ k₀ plan next k = (length plan ≡ length plan₀) × (first ≤ next)
+    × (k < count → (getD (endsIn wires) k 0 ≡ u) × AddsAll u first k next (endsIn wires) copied (ownersIn plan₀) (wordsIn plan₀) (ownersIn plan) (wordsIn plan))
+    × (count ≤ k → AddsAll u first count next (endsIn wires) copied (ownersIn plan₀) (wordsIn plan₀) (ownersIn plan) (wordsIn plan))
+    × (lateIn plan ≡ lateIn plan₀) × (firstsIn plan ≡ firstsIn plan₀)
 
 abbrev μ-loop : tie.MeasureT-loop
-μ-loop ends copied links wires u head first owners₀ words₀ count₀ k₀ owners words count k = wires - k
+μ-loop wires copied count u head first plan₀ next₀ k₀ plan next k = count - k
 
 loop-holds : tie.Need-loop-holds Inv-loop μ-loop
-loop-holds c = (refl, refl, omega arith, λ l. (c .before .before .before .before .before .pre .4 .start .here l .1, adds-to (c .before .before .before .before .before .args .head) adds-none (c .before .before .before .before .before .pre .4 .start) (omega arith) (omega arith) (omega arith)), λ l. adds-to (c .before .before .before .before .before .args .wires) adds-none (c .before .before .before .before .before .pre .4 .start) (omega arith) l (omega arith))
+loop-holds c =
+    let s = c .before .before .before in
+    let f = s .pre .4 .start in
+    (refl, omega arith, λ l. (f .here l .1, adds-to (s .args .head) adds-none f (omega arith) (omega arith) (omega arith)), λ l. adds-to (s .args .count) adds-none f (omega arith) l (omega arith), refl, refl)
 
 number-at-requires : tie.Need-number-at-requires Inv-loop μ-loop
 number-at-requires c κs = search needs
 
 add-copy-requires : tie.Need-add-copy-requires Inv-loop μ-loop
-add-copy-requires c κs = (c .before .before .before .before .loop .inv .2, omega (arith, c .before .before .before .before .loop .inv .3 (c .before .before .before .loop-test .taken) .1 .little, c .before .before .before .before .before .before .before .before .before .before .pre .0, c .before .before .before .before .before .before .before .before .before .before .pre .1, c .before .before .before .loop-test .taken), omega (arith, c .before .before .before .before .loop .inv .0, c .before .before .before .before .before .before .before .before .before .before .pre .2), omega (arith, c .before .before .before .before .loop .inv .1, c .before .before .before .before .before .before .before .before .before .before .pre .3))
+add-copy-requires c κs =
+    let s = c .before .before .before .before .before .before .before in
+    let l = c .before .before .before .loop in
+    let h = c .before .before .loop-test .taken in
+    (l .inv .1, omega (arith, l .inv .2 h .1 .little, s .pre .0, s .pre .1, h), l .inv .0 ∙ s .pre .3)
+
+add-number-at : tie.Need-add-number-at Inv-loop μ-loop
+add-number-at c = omega (arith, c .before .before .before .before .before .loop-test .taken, c .before .before .before .before .before .before .before .before .before .before .pre .1)
 
 number-at-requires-2 : tie.Need-number-at-requires-2 Inv-loop μ-loop
 number-at-requires-2 c κs = search needs
@@ -34,25 +50,30 @@ wide-requires : tie.Need-wide-requires Inv-loop μ-loop
 wide-requires c κs = search needs
 
 loop-less : tie.Need-loop-less Inv-loop μ-loop
-loop-less c = let n : c .wide .result ≡ getD (c .before .before .before .before .before .before .before .before .before .before .before .before .before .before .before .before .before .args .links .now) (c .before .before .before .before .before .before .before .before .before .before .before .loop .k) 0 = c .wide .ensures .0 ∙ c .before .number-at2 .ensures in
-    let f = c .before .before .before .before .before .before .before .before .before .before .before .before .before .before .before .before .before .pre .4 .step (c .before .before .before .before .before .before .before .before .before .before .before .loop .k) (c .before .before .before .before .before .before .before .before .before .before .loop-test .taken) (c .before .before .before .before .before .before .before .before .before .before .before .loop .inv .3 (c .before .before .before .before .before .before .before .before .before .before .loop-test .taken) .0) in
-    ⊎-elim (λ l. omega (arith, n, f .here (omega (arith, n, l)) .0)) (λ l. omega (arith, l, c .before .before .before .before .before .before .before .before .before .before .loop-test .taken)) (lt-or-le (c .wide .result) (c .before .before .before .before .before .before .before .before .before .before .before .before .before .before .before .before .before .args .wires))
+loop-less c =
+    let s = c .before .before .before .before .before .before .before .before .before .before .before .before in
+    let l = c .before .before .before .before .before .before .before .before .loop in
+    let h = c .before .before .before .before .before .before .before .loop-test .taken in
+    let n : c .wide .result ≡ getD (clocksIn (s .args .wires .now)) (l .k) 0 = c .wide .ensures .0 ∙ c .before .number-at2 .ensures ∙ sym (section-read 6144 3072 (s .args .wires .now) (l .k) (omega (arith, h, s .pre .1))) in
+    let f = s .pre .4 .step (l .k) h (l .inv .2 h .0) in
+    ⊎-elim (λ g. omega (arith, n, f .here (omega (arith, n, g)) .0)) (λ g. omega (arith, g, h)) (lt-or-le (c .wide .result) (s .args .count))
 
 loop-again : tie.Need-loop-again Inv-loop μ-loop
-loop-again c = let a = c .before .before .before .before .before .before .before .before .before .before .before .before .before .before .before .before .before .args in
-    let n : getD (a .links .now) (c .before .before .before .before .before .before .before .before .before .before .before .loop .k) 0 ≡ c .wide .result = sym (c .wide .ensures .0 ∙ c .before .number-at2 .ensures) in
-    let f = subst (From (a .ends .now) (a .wires) (a .u) (c .before .before .before .before .before .before .before .before .before .before .before .loop .k + 1)) n (c .before .before .before .before .before .before .before .before .before .before .before .before .before .before .before .before .before .pre .4 .step (c .before .before .before .before .before .before .before .before .before .before .before .loop .k) (c .before .before .before .before .before .before .before .before .before .before .loop-test .taken) (c .before .before .before .before .before .before .before .before .before .before .before .loop .inv .3 (c .before .before .before .before .before .before .before .before .before .before .loop-test .taken) .0)) in
-    let t = adds-more (c .before .before .before .before .before .before .before .before .before .before .before .loop .inv .3 (c .before .before .before .before .before .before .before .before .before .before .loop-test .taken) .1) (c .before .before .before .before .before .before .before .before .before .before .before .loop .inv .3 (c .before .before .before .before .before .before .before .before .before .before .loop-test .taken) .0) (c .before .before .before .before .before .before .before .before .before .number-at .ensures) (c .before .before .before .before .before .before .add-copy .ensures) in
-    (c .before .before .before .before .before .before .add-copy .kept .1 .1 .1 .1 .0 ∙ c .before .before .before .before .before .before .before .before .before .before .before .loop .inv .0, c .before .before .before .before .before .before .add-copy .kept .1 .1 .1 .1 .1 .0 ∙ c .before .before .before .before .before .before .before .before .before .before .before .loop .inv .1, omega (arith, c .before .before .before .before .before .before .before .before .before .before .before .loop .inv .2, c .before .before .before .before .before .before .add-copy .ensures .grows), λ l. (f .here l .1, adds-to (c .wide .result) t f (f .here l .0) (omega arith) (omega arith)), λ l. adds-to (a .wires) t f (omega (arith, c .before .before .before .before .before .before .before .before .before .before .loop-test .taken)) l (omega arith))
+loop-again c =
+    let s = c .before .before .before .before .before .before .before .before .before .before .before .before in
+    let l = c .before .before .before .before .before .before .before .before .loop in
+    let h = c .before .before .before .before .before .before .before .loop-test .taken in
+    let r = c .before .before .before .before .add-copy in
+    let n : getD (clocksIn (s .args .wires .now)) (l .k) 0 ≡ c .wide .result = sym (c .wide .ensures .0 ∙ c .before .number-at2 .ensures ∙ sym (section-read 6144 3072 (s .args .wires .now) (l .k) (omega (arith, h, s .pre .1)))) in
+    let f = subst (From (endsIn (s .args .wires .now)) (s .args .count) (s .args .u) (l .k + 1)) n (s .pre .4 .step (l .k) h (l .inv .2 h .0)) in
+    let t = adds-more (l .inv .2 h .1) (l .inv .2 h .0) (c .before .before .before .before .before .before .number-at .ensures) (r .ensures .0) in
+    (r .kept .1 .1 .1 .1 .0 ∙ l .inv .0, omega (arith, l .inv .1, r .ensures .0 .grows), λ g. (f .here g .1, adds-to (c .wide .result) t f (f .here g .0) (omega arith) (omega arith)), λ g. adds-to (s .args .count) t f (omega (arith, h)) g (omega arith), r .ensures .1 ∙ l .inv .4, r .ensures .2 ∙ l .inv .5)
 
 same-length : tie.Need-same-length Inv-loop μ-loop
 same-length c = c .before .loop .inv .0
 
-same-length-2 : tie.Need-same-length-2 Inv-loop μ-loop
-same-length-2 c = c .before .loop .inv .1
-
 returns : tie.Need-returns Inv-loop μ-loop
-returns c = c .before .loop .inv .4 (omega (arith, c .loop-test .left))
+returns c = (c .before .loop .inv .3 (omega (arith, c .loop-test .left)), c .before .loop .inv .4, c .before .loop .inv .5)
 
 pub add-copies-spec : {M : Type 1} → statement M
 add-copies-spec =
@@ -63,10 +84,10 @@ add-copies-spec =
     loop-holds
     number-at-requires
     add-copy-requires
+    add-number-at
     number-at-requires-2
     wide-requires
     loop-less
     loop-again
     same-length
-    same-length-2
     returns)

@@ -3,42 +3,42 @@ use mathlib.Core.Path.{_≡_, refl, _∙_}
 use Prim.Native.Nat.{_-_, _≤_}
 use native.Mathlib.Omega.{arith}
 use lib.ListN.{length}
+use Rattle.lists.specs.Sections.{section-length}
 use Rattle.circuit.specs.Circuit.{netOf}
+use Rattle.plan.specs.Areas.{ownersIn, wordsIn, lateIn, firstsIn}
 use Rattle.plan.specs.Entries.{Placing, Firsts, entriesBefore}
-use Rattle.plan.specs.EntriesLaws.{placing-none, placed-over, placed-all, first-more, firsts-as}
+use Rattle.plan.specs.EntriesLaws.{placing-none, placing-as, placed-over, placed-all, first-more, first-put, firsts-as}
 use borrow.Author.Needs.{needs}
 use Rattle.plan.proofs.entries.place_entries.Statement.{statement}
 use Rattle.plan.proofs.entries.place_entries.Tie as tie
 
 abbrev Inv-loop : tie.InvT-loop
-Inv-loop file net ends copied heads links firsts₀ owners₀ words₀ n count₀ u₀ firsts owners words count u =
-    (u ≤ n) × (length firsts ≡ length firsts₀) × (length owners ≡ length owners₀) × (length words ≡ length words₀) × (count ≤ 4096)
-    × Placing owners words (entriesBefore (netOf file net) u) count × (count ≤ 1024 → Firsts (netOf file net) firsts u)
+Inv-loop file net wires copied plan₀ n count₀ u₀ plan count u =
+    (u ≤ n) × (length plan ≡ length plan₀) × (count ≤ 4096) × Placing (ownersIn plan) (wordsIn plan) (entriesBefore (netOf file net) u) count
+    × (count ≤ 1024 → Firsts (netOf file net) (firstsIn plan) u) × (lateIn plan ≡ lateIn plan₀)
 
 abbrev μ-loop : tie.MeasureT-loop
-μ-loop file net ends copied heads links firsts₀ owners₀ words₀ n count₀ u₀ firsts owners words count u = n - u
+μ-loop file net wires copied plan₀ n count₀ u₀ plan count u = n - u
 
 node-count-requires : tie.Need-node-count-requires Inv-loop μ-loop
 node-count-requires c κs = search needs
 
 loop-holds : tie.Need-loop-holds Inv-loop μ-loop
 loop-holds c =
-    let a = c .before .before .before .before .before .before .before .before .before .before .args in
-    (omega arith, refl, refl, refl, omega arith, placing-none (netOf (a .file .now) (a .net .now)) _ _, λ h v l. absurd (omega arith))
+    let a = c .before .before .before .before .before .before .args in
+    (omega arith, refl, omega arith, placing-none (netOf (a .file .now) (a .net .now)) _ _, λ h v l. absurd (omega arith), refl)
 
 same-length : tie.Need-same-length Inv-loop μ-loop
 same-length c = c .before .before .loop .inv .1
 
-same-length-2 : tie.Need-same-length-2 Inv-loop μ-loop
-same-length-2 c = c .before .before .loop .inv .2
-
-same-length-3 : tie.Need-same-length-3 Inv-loop μ-loop
-same-length-3 c = c .before .before .loop .inv .3
-
 returns : tie.Need-returns Inv-loop μ-loop
 returns c =
-    let a = c .before .before .before .before .before .before .before .before .before .before .before .before .before .args in
-    placed-over (netOf (a .file .now) (a .net .now)) _ (c .before .before .loop .inv .5) (omega (arith, c .before .before .before .node-count .ensures .0, c .before .before .loop .inv .0)) (c .if1 .taken)
+    let a = c .before .before .before .before .before .before .before .before .before .args in
+    let i = c .before .before .loop .inv in
+    (placed-over (netOf (a .file .now) (a .net .now)) (firstsIn (c .before .before .loop .plan)) (i .3) (omega (arith, c .before .before .before .node-count .ensures .0, i .0)) (c .if1 .taken), i .5)
+
+add-put-number : tie.Need-add-put-number Inv-loop μ-loop
+add-put-number c = omega (arith, c .before .before .loop-test .taken, c .before .before .before .before .node-count .ensures .1)
 
 cast-put-number : tie.Need-cast-put-number Inv-loop μ-loop
 cast-put-number c = omega (arith, c .before .if1 .left)
@@ -48,39 +48,50 @@ put-number-requires c κs = search needs
 
 place-requires : tie.Need-place-requires Inv-loop μ-loop
 place-requires c κs =
-    let t = c .before .before .before .before .before .before .before .before .before .before .before .before .before .before .before .before .before .before .before .pre .1 in
-    let i = c .before .before .before .before .before .before .before .before .loop .inv in
-    (c .before .before .before .before .before .before .before .before .before .before .before .before .before .before .before .before .before .before .before .pre .0, (omega (arith, c .before .before .before .before .before .before .before .before .before .node-count .ensures .0, c .before .before .before .before .before .before .before .loop-test .taken), omega (arith, c .before .before .before .before .before .before .if1 .left), omega (arith, i .2, t .1), omega (arith, i .3, t .2), t .3, t .4, i .5))
+    let s = c .before .before .before .before .before .before .before .before .before .before .before .before .before .before in
+    let t = s .pre .1 in
+    let l = c .before .before .before .before .before .before .before .loop in
+    let w = c .before .before .before .put-number in
+    let h = c .before .before .before .before .before .before .loop-test .taken in
+    let n = c .before .before .before .before .before .before .before .before .node-count .ensures in
+    let p = first-put (l .plan) (w .last .0) (l .u) (l .count) (omega (arith, h, n .1)) (w .ensures) in
+    (s .pre .0, (omega (arith, n .0, h), omega (arith, c .before .before .before .before .before .if1 .left), t .0, w .kept .0 ∙ l .inv .1 ∙ t .1, t .2, t .3, placing-as (p .0) (p .1) refl (l .inv .3)))
 
 add-u : tie.Need-add-u Inv-loop μ-loop
-add-u c = omega (arith, c .before .before .before .before .before .before .before .before .before .before .before .before .loop-test .taken, c .before .before .before .before .before .before .before .before .before .before .before .before .before .before .node-count .ensures .1)
+add-u c = omega (arith, c .before .before .before .before .before .before .before .before .before .loop-test .taken, c .before .before .before .before .before .before .before .before .before .before .before .node-count .ensures .1)
 
 loop-less : tie.Need-loop-less Inv-loop μ-loop
-loop-less c = omega (arith, c .before .before .before .before .before .before .before .before .before .before .before .before .loop-test .taken)
+loop-less c = omega (arith, c .before .before .before .before .before .before .before .before .before .loop-test .taken)
 
 loop-again : tie.Need-loop-again Inv-loop μ-loop
 loop-again c =
-    let a = c .before .before .before .before .before .before .before .before .before .before .before .before .before .before .before .before .before .before .before .before .before .before .before .before .args in
-    let N = netOf (a .file .now) (a .net .now) in
-    let t = c .before .before .before .before .before .before .before .before .before .before .before .before .before .before .before .before .before .before .before .before .before .before .before .before .pre .1 in
-    let i = c .before .before .before .before .before .before .before .before .before .before .before .before .before .loop .inv in
-    let r = c .before .before .before .before .place in
-    let k = r .kept .1 .1 .1 .1 .1 .1 .1 .1 in
-    (omega (arith, c .before .before .before .before .before .before .before .before .before .before .before .before .loop-test .taken), c .before .before .before .before .before .before .before .before .before .put-number .kept .0 ∙ i .1, k .0 ∙ i .2, k .1 .0 ∙ i .3, r .ensures .1, r .ensures .0, λ h. firsts-as N (c .before .before .before .before .before .before .before .before .before .put-number .ensures) (first-more N (c .before .before .before .before .before .before .before .before .before .before .before .before .before .loop .firsts) (i .5) (omega (arith, c .before .before .before .before .before .before .before .before .before .before .before .if1 .left)) (omega (arith, i .1, t .0, c .before .before .before .before .before .before .before .before .before .before .before .before .loop-test .taken, c .before .before .before .before .before .before .before .before .before .before .before .before .before .before .node-count .ensures .1)) (i .6 (omega (arith, c .before .before .before .before .before .before .before .before .before .before .before .if1 .left)))))
+    let s = c .before .before .before .before .before .before .before .before .before .before .before .before .before .before .before .before .before in
+    let N = netOf (s .args .file .now) (s .args .net .now) in
+    let t = s .pre .1 in
+    let l = c .before .before .before .before .before .before .before .before .before .before .loop in
+    let i = l .inv in
+    let w = c .before .before .before .before .before .before .put-number in
+    let r = c .before .before .place in
+    let h = c .before .before .before .before .before .before .before .before .before .loop-test .taken in
+    let n = c .before .before .before .before .before .before .before .before .before .before .before .node-count .ensures in
+    let o = c .before .before .before .before .before .before .before .before .if1 .left in
+    let p = first-put (l .plan) (w .last .0) (l .u) (l .count) (omega (arith, h, n .1)) (w .ensures) in (
+      omega (arith, h),
+      r .kept .1 .1 .1 .1 .1 .1 .0 ∙ w .kept .0 ∙ i .1,
+      r .ensures .1,
+      r .ensures .0,
+      λ g. firsts-as N (r .ensures .3 ∙ p .3) (first-more N (firstsIn (l .plan)) (i .3) o (omega (arith, section-length 3072 1024 (l .plan) (omega (arith, i .1, t .1)), h, n .1)) (i .4 o)),
+      r .ensures .2 ∙ p .2 ∙ i .5,
+    )
 
-same-length-4 : tie.Need-same-length-4 Inv-loop μ-loop
-same-length-4 c = c .before .loop .inv .1
-
-same-length-5 : tie.Need-same-length-5 Inv-loop μ-loop
-same-length-5 c = c .before .loop .inv .2
-
-same-length-6 : tie.Need-same-length-6 Inv-loop μ-loop
-same-length-6 c = c .before .loop .inv .3
+same-length-2 : tie.Need-same-length-2 Inv-loop μ-loop
+same-length-2 c = c .before .loop .inv .1
 
 returns-2 : tie.Need-returns-2 Inv-loop μ-loop
 returns-2 c =
-    let a = c .before .before .before .before .before .before .before .before .before .before .before .before .args in
-    placed-all (netOf (a .file .now) (a .net .now)) _ (c .before .loop .inv .5) (omega (arith, c .before .before .node-count .ensures .0, c .before .loop .inv .0, c .loop-test .left)) (c .before .loop .inv .6)
+    let a = c .before .before .before .before .before .before .before .before .args in
+    let i = c .before .loop .inv in
+    (placed-all (netOf (a .file .now) (a .net .now)) (firstsIn (c .before .loop .plan)) (i .3) (omega (arith, c .before .before .node-count .ensures .0, i .0, c .loop-test .left)) (i .4), i .5)
 
 pub place-entries-spec : {M : Type 1} → statement M
 place-entries-spec =
@@ -91,16 +102,13 @@ place-entries-spec =
     node-count-requires
     loop-holds
     same-length
-    same-length-2
-    same-length-3
     returns
+    add-put-number
     cast-put-number
     put-number-requires
     place-requires
     add-u
     loop-less
     loop-again
-    same-length-4
-    same-length-5
-    same-length-6
+    same-length-2
     returns-2)

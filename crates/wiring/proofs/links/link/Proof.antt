@@ -1,16 +1,24 @@
 -- Linked, or past a wire without a clock.
-use mathlib.Core.Path.{_≡_, ap, _∙_}
-use Prim.Native.Nat.{ℕ}
+use mathlib.Core.Path.{refl, ap, _∙_}
+use mathlib.Core.List.{List}
+use Prim.Native.Nat.{ℕ, _+_}
 use native.Mathlib.Omega.{arith}
-use lib.ListN.{getD}
-use borrow.Author.Needs.{needs}
 use lib.ListN.{set}
-use Rattle.wiring.specs.Links.{linked-past, linked-more}
+use borrow.Author.Needs.{needs}
+use Rattle.lists.specs.Sections.{section-read}
+use Rattle.wiring.specs.Wiring.{endsIn}
+use Rattle.wiring.specs.Links.{linked-past, linked-put, ends-kept}
 use Rattle.wiring.proofs.links.link.Statement.{statement}
 use Rattle.wiring.proofs.links.link.Tie as tie
 
+add-number-at : tie.Need-add-number-at
+add-number-at c = search needs
+
 number-at-requires : tie.Need-number-at-requires
 number-at-requires c κs = search needs
+
+add-number-at-2 : tie.Need-add-number-at-2
+add-number-at-2 c = search needs
 
 number-at-requires-2 : tie.Need-number-at-requires-2
 number-at-requires-2 c κs = search needs
@@ -18,48 +26,65 @@ number-at-requires-2 c κs = search needs
 wide-requires : tie.Need-wide-requires
 wide-requires c κs = search needs
 
+add-put-number : tie.Need-add-put-number
+add-put-number c = search needs
+
+add-number-at-3 : tie.Need-add-number-at-3
+add-number-at-3 c = search needs
+
 number-at-requires-3 : tie.Need-number-at-requires-3
 number-at-requires-3 c κs = search needs
 
 put-number-requires : tie.Need-put-number-requires
 put-number-requires c κs = search needs
 
+add-put-number-2 : tie.Need-add-put-number-2
+add-put-number-2 c = search needs
+
 cast-put-number : tie.Need-cast-put-number
-cast-put-number c = omega (arith, c .before .before .before .before .before .before .before .before .before .before .before .before .before .before .before .pre .0, c .before .before .before .before .before .before .before .before .before .before .before .before .before .before .before .pre .1)
+cast-put-number c = search needs
 
 put-number-requires-2 : tie.Need-put-number-requires-2
 put-number-requires-2 c κs = search needs
 
 same-length : tie.Need-same-length
-same-length c = c .before .before .put-number2 .kept .0
-
-same-length-2 : tie.Need-same-length-2
-same-length-2 c = c .before .before .before .before .before .before .put-number .kept .0
+same-length c = search needs
 
 returns : tie.Need-returns
-returns c = let a = c .before .before .before .before .before .before .before .before .before .before .before .before .before .before .before .before .before .before .args in
-    let u : c .before .before .before .before .before .before .before .before .before .before .wide .result ≡ getD (a .ends .now) (a .k) 0 = c .before .before .before .before .before .before .before .before .before .before .wide .ensures .0 ∙ c .before .before .before .before .before .before .before .before .before .before .before .number-at2 .ensures in
-    λ clocks t. linked-more (a .ends .now) clocks (a .wires) (c .before .before .before .before .before .before .before .before .before .before .before .before .before .before .before .before .before .before .pre .1) t u (omega (arith, c .before .before .before .before .before .before .before .before .before .before .before .before .before .before .before .before .before .before .pre .0, c .before .before .before .before .before .before .before .before .before .before .before .before .before .before .before .before .before .before .pre .1, c .before .before .before .before .before .before .before .before .before .before .before .before .before .before .before .before .before .before .pre .3)) (c .before .before .before .before .before .before .before .before .before .before .before .before .before .before .before .before .before .before .pre .2) (c .before .before .put-number2 .ensures) (c .before .before .before .before .before .before .put-number .ensures ∙ ap (λ (x : ℕ). set (a .links .now) (a .k) x) (c .before .before .before .before .before .before .before .number-at3 .ensures))
+returns c =
+    let a = c .before .before .before .before .before .before .before .before .before .before .before .before .before .before .before .before .before .args in
+    let t = c .before .before .before .before .before .before .before .before .before .before .before .before .before .before .before .before .before .pre in
+    let u = c .before .before .before .before .before .before .before .before .before .before .wide .ensures .0 ∙ c .before .before .before .before .before .before .before .before .before .before .before .number-at2 .ensures in
+    let v : ℕ = c .before .before .before .before .before .before .before .before .before .before .wide .result in
+    let p = c .before .before .put-number2 .ensures ∙ ap (λ (l : List ℕ). set l (9216 + v) (a .k)) (c .before .before .before .before .before .before .put-number .ensures ∙ ap (set (a .wires .now) (6144 + a .k)) (c .before .before .before .before .before .before .before .number-at3 .ensures)) in
+    (linked-put (a .wires .now) (t .0) (t .1) (t .2) u p, ends-kept (a .wires .now) (t .0) (t .1) (t .2) u p)
 
-same-length-3 : tie.Need-same-length-3
-same-length-3 c = search needs
+same-length-2 : tie.Need-same-length-2
+same-length-2 c = search needs
 
 returns-2 : tie.Need-returns-2
-returns-2 c = λ clocks t. linked-past (c .before .before .before .before .before .before .args .ends .now) clocks (c .before .before .before .before .before .before .args .wires) (c .before .before .before .before .before .before .pre .1) t (omega (arith, c .before .number-at .ensures, c .if1 .left))
+returns-2 c =
+    let a = c .before .before .before .before .args in
+    let t = c .before .before .before .before .pre in
+    (λ clocks s. linked-past (endsIn (a .wires .now)) clocks (a .count) (t .1) s (omega (arith, section-read 6144 3072 (a .wires .now) (a .k) (omega (arith, t .0, t .1)), c .before .number-at .ensures, c .if1 .left)), refl)
 
 pub link-spec : {M : Type 1} → statement M
 link-spec =
     tie.close
     (tie.spec
+    add-number-at
     number-at-requires
+    add-number-at-2
     number-at-requires-2
     wide-requires
+    add-put-number
+    add-number-at-3
     number-at-requires-3
     put-number-requires
+    add-put-number-2
     cast-put-number
     put-number-requires-2
     same-length
-    same-length-2
     returns
-    same-length-3
+    same-length-2
     returns-2)

@@ -1,44 +1,56 @@
--- The loop's invariant: the wires from k on are linked.
-use mathlib.Core.Path.{_≡_, refl, subst, _∙_}
+-- The loop's invariant: the wires from k on are linked, and they end where they did.
+use mathlib.Core.Path.{_≡_, refl, sym, subst, _∙_}
+use mathlib.Core.List.{List}
 use Prim.Native.Nat.{ℕ, _+_, _-_, _≤_}
 use native.Mathlib.Omega.{arith}
 use lib.ListN.{length}
 use borrow.Author.Needs.{needs}
+use Rattle.wiring.specs.Wiring.{endsIn, clocksIn, headsIn}
 use Rattle.wiring.specs.Links.{LinkedFrom}
 use Rattle.wiring.proofs.links.link_wires.Statement.{statement}
 use Rattle.wiring.proofs.links.link_wires.Tie as tie
 
 abbrev Inv-loop : tie.InvT-loop
-Inv-loop ends wires heads₀ links₀ k₀ heads links k = (k ≤ wires) × (length heads ≡ length heads₀) × (length links ≡ length links₀) × LinkedFrom ends links₀ wires heads links k
+Inv-loop wires₀ count k₀ wires k =
+    (k ≤ count) × (length wires ≡ length wires₀) × LinkedFrom (endsIn wires₀) (clocksIn wires₀) count (headsIn wires) (clocksIn wires) k × (endsIn wires ≡ endsIn wires₀)
 
 abbrev μ-loop : tie.MeasureT-loop
-μ-loop ends wires heads₀ links₀ k₀ heads links k = k
+μ-loop wires₀ count k₀ wires k = k
 
 loop-holds : tie.Need-loop-holds Inv-loop μ-loop
-loop-holds c = (omega arith, refl, refl, c .before .before .before .pre .3)
+loop-holds c = (omega arith, refl, c .before .pre .2, refl)
 
 sub-k : tie.Need-sub-k Inv-loop μ-loop
 sub-k c = search needs
 
 link-requires : tie.Need-link-requires Inv-loop μ-loop
-link-requires c κs = (c .before .before .before .before .before .before .before .pre .0, omega (arith, c .before .before .before .loop .inv .0, c .before .before .loop-test .taken), omega (arith, c .before .before .before .loop .inv .1, c .before .before .before .before .before .before .before .pre .1), c .before .before .before .loop .inv .2 ∙ c .before .before .before .before .before .before .before .pre .2)
+link-requires c κs =
+    let i = c .before .before .loop .inv in
+    (c .before .before .before .before .pre .0, omega (arith, i .0, c .before .loop-test .taken), i .1 ∙ c .before .before .before .before .pre .1)
 
 loop-less : tie.Need-loop-less Inv-loop μ-loop
-loop-less c = omega (arith, c .before .before .before .before .before .before .before .loop-test .taken)
+loop-less c = omega (arith, c .before .before .before .before .loop-test .taken)
 
 loop-again : tie.Need-loop-again Inv-loop μ-loop
-loop-again c = let a = c .before .before .before .before .before .before .before .before .before .before .before .before .args in
-    (omega (arith, c .before .before .before .before .before .before .before .before .loop .inv .0), c .before .before .before .before .link .kept .1 .1 .1 .0 ∙ c .before .before .before .before .before .before .before .before .loop .inv .1, c .before .before .before .before .link .kept .1 .1 .1 .1 .0 ∙ c .before .before .before .before .before .before .before .before .loop .inv .2, c .before .before .before .before .link .ensures (a .links .now) (subst (λ (j : ℕ). LinkedFrom (a .ends .now) (a .links .now) (a .wires) (c .before .before .before .before .before .before .before .before .loop .heads) (c .before .before .before .before .before .before .before .before .loop .links) j) (let e : c .before .before .before .before .before .before .before .before .loop .k ≡ c .before .before .before .before .before .before .before .before .loop .k - 1 + 1 = omega (arith, c .before .before .before .before .before .before .before .loop-test .taken) in e) (c .before .before .before .before .before .before .before .before .loop .inv .3)))
+loop-again c =
+    let a = c .before .before .before .before .before .before .before .args in
+    let i = c .before .before .before .before .before .loop .inv in
+    let k : ℕ = c .before .before .before .before .before .loop .k in
+    let l : List ℕ = c .before .before .before .before .before .loop .wires in
+    let n = c .before .before .link .last .0 in
+    let e : k ≡ k - 1 + 1 = omega (arith, c .before .before .before .before .loop-test .taken) in
+    let more = c .before .before .link .ensures .0 (clocksIn (a .wires .now)) (subst (λ (y : List ℕ). LinkedFrom y (clocksIn (a .wires .now)) (a .count) (headsIn l) (clocksIn l) (k - 1 + 1)) (sym (i .3)) (subst (LinkedFrom (endsIn (a .wires .now)) (clocksIn (a .wires .now)) (a .count) (headsIn l) (clocksIn l)) e (i .2))) in
+    (omega (arith, i .0), c .before .before .link .kept .0 ∙ i .1, subst (λ (y : List ℕ). LinkedFrom y (clocksIn (a .wires .now)) (a .count) (headsIn n) (clocksIn n) (k - 1)) (i .3) more, c .before .before .link .ensures .1 ∙ i .3)
 
 same-length : tie.Need-same-length Inv-loop μ-loop
 same-length c = c .before .loop .inv .1
 
-same-length-2 : tie.Need-same-length-2 Inv-loop μ-loop
-same-length-2 c = c .before .loop .inv .2
-
 returns : tie.Need-returns Inv-loop μ-loop
-returns c = let a = c .before .before .before .before .before .args in
-    subst (λ (j : ℕ). LinkedFrom (a .ends .now) (a .links .now) (a .wires) (c .before .loop .heads) (c .before .loop .links) j) (let e : c .before .loop .k ≡ 0 = omega (arith, c .loop-test .left) in e) (c .before .loop .inv .3)
+returns c =
+    let a = c .before .before .before .args in
+    let l : List ℕ = c .before .loop .wires in
+    let e : c .before .loop .k ≡ 0 = omega (arith, c .loop-test .left) in
+    (subst (LinkedFrom (endsIn (a .wires .now)) (clocksIn (a .wires .now)) (a .count) (headsIn l) (clocksIn l)) e (c .before .loop .inv .2), c .before .loop .inv .3)
 
 pub link-wires-spec : {M : Type 1} → statement M
 link-wires-spec =
@@ -52,5 +64,4 @@ link-wires-spec =
     loop-less
     loop-again
     same-length
-    same-length-2
     returns)

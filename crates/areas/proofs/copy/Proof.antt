@@ -6,8 +6,8 @@ use native.Mathlib.Omega.{arith}
 use lib.ListN.{length, getD, take, set, length-set}
 use lib.Seq.{take-suc, take-suc-set, take-all}
 use borrow.Author.Needs.{needs}
-use Rattle.first_clocks.proofs.copy.Statement.{statement}
-use Rattle.first_clocks.proofs.copy.Tie as tie
+use Rattle.areas.proofs.copy.Statement.{statement}
+use Rattle.areas.proofs.copy.Tie as tie
 
 abbrev Inv-loop : tie.InvT-loop
 Inv-loop from to₀ i₀ to i = (i ≤ length from) × (length to ≡ length to₀) × (take i to ≡ take i from)
