@@ -1,6 +1,6 @@
 -- One check of the reader, from the lowest node that the code found. Assumes nothing.
-use mathlib.Core.Path.{_≡_, refl, sym, ap, subst, _∙_}
-use mathlib.Core.Bool.{Bool, true, false}
+use mathlib.Core.Path.{_≡_, sym, ap, _∙_}
+use mathlib.Core.Bool.{Bool, false}
 use mathlib.Core.List.{List, [], _∷_}
 use Prim.Native.Nat.{ℕ, _≤_, _<_, zero-le}
 use native.Mathlib.Omega.{arith}
@@ -11,7 +11,6 @@ use Rattle.netlist.specs.Reach.{reachesItself}
 use Rattle.netlist.specs.Verdict.{badSource, badWidth, unread, inLoop, inRing, Stage, atLowest, verdict, readerStages, readerVerdict}
 use Rattle.netlist.specs.VerdictLaws.{six-sourced}
 use Rattle.netlist.specs.Places.{skip, refuses}
-use Rattle.netlist.specs.declared.Verdict.{Verdict}
 use Rattle.netlist.specs.declared.Verdict.the-variants.{Fine, Refuses}
 use Rattle.checks.specs.Open.{fromNine}
 

@@ -1,67 +1,29 @@
--- From the index and the verdict of the code to the definitions, over plain values. Assumes nothing.
-use mathlib.Core.Path.{_≡_, refl, sym, ap, ap₂, subst, _∙_}
+-- From the circuit and the verdict of the code to the definitions, over plain values. Assumes nothing.
+use mathlib.Core.Path.{_≡_, refl, sym, ap, subst, _∙_}
 use mathlib.Core.Logic.{⊎-elim}
 use mathlib.Core.List.{List}
-use Prim.Native.Nat.{ℕ, _≤_, _<_}
+use Prim.Native.Nat.{ℕ, _<_}
 use native.Mathlib.Omega.{arith}
-use lib.ListN.{length, take, length-take}
+use lib.ListN.{length}
 use Rattle.lists.specs.BelowLaws.{lt-or-le}
 use Rattle.netlist.specs.Net.{inClock, Net, size, elementAt, source, operands, Sourced}
 use Rattle.netlist.specs.Checks.{WellFormed}
 use Rattle.netlist.specs.VerdictLaws.{reader-fine}
-use Rattle.netlist.specs.Scan.{Scan, refused, found, scan}
-use Rattle.netlist.specs.ScanLaws.{Found, scan-found}
 use Rattle.netlist.specs.Verdict.{readerVerdict}
-use Rattle.netlist.specs.File.{good, netIn, decode, decoded, judged, fileVerdict, answer, checkAnswer}
+use Rattle.netlist.specs.File.{bad, good, decode, judged, fileVerdict, answer, checkAnswer}
 use Rattle.netlist.specs.declared.Answer.the-variants.{Accepted, Refused}
-use Rattle.netlist.specs.declared.Scanned.{Scanned}
-use Rattle.netlist.specs.declared.Scanned.the-variants.{Refuse, Fields}
 use Rattle.netlist.specs.declared.Verdict.{Verdict}
 use Rattle.netlist.specs.declared.Verdict.the-variants.{Fine, Refuses}
 use Rattle.codec.specs.Bytes.{Bytes}
 use Rattle.codec.specs.DecodeWithin.{decode-within}
 use Rattle.circuit.specs.Circuit.{orderOf, netOf, Circuit}
 use Rattle.circuit.specs.Order.{Complete}
-use Rattle.reader.specs.Index.{scannedOf, Indexed}
 use Rattle.checks.specs.Open.{Open, Opened, turned-away, taken}
 
--- the fields that the code found are the definition's
-fields-are : (w : Scan) (us vs : List ℕ) (t n : ℕ) → Fields t n ≡ scannedOf w → Indexed w us vs → w ≡ found (take t us) (take n vs)
-fields-are (refused k p) us vs t n e h = let z : _≡_ {A = ℕ} 0 1 = cc in absurd (omega arith)
-fields-are (found ts ns) us vs t n e h =
-    let a : t ≡ length ts = cc in
-    let b : n ≡ length ns = cc in
-    ap₂ found (sym (ap (λ (k : ℕ). take k us) a ∙ h .0)) (sym (ap (λ (k : ℕ). take k vs) b ∙ h .1))
-
-count-are : (w : Scan) (us vs : List ℕ) (t n : ℕ) → Fields t n ≡ scannedOf w → Indexed w us vs → (t ≤ length us) × (n ≤ length vs)
-count-are (refused k p) us vs t n e h = let z : _≡_ {A = ℕ} 0 1 = cc in absurd (omega arith)
-count-are (found ts ns) us vs t n e h =
-    let a : t ≡ length ts = cc in
-    let b : n ≡ length ns = cc in
-    (omega (arith, a, ap length (h .0), length-take (length ts) us), omega (arith, b, ap length (h .1), length-take (length ns) vs))
-
-refusal-is : (w : Scan) (k p : ℕ) → Refuse k p ≡ scannedOf w → w ≡ refused k p
-refusal-is (refused a b) k p e = let x : a ≡ k = cc in let y : b ≡ p = cc in ap₂ refused x y
-refusal-is (found ts ns) k p e = let z : _≡_ {A = ℕ} 0 1 = cc in absurd (omega arith)
-
-module _ (s : List ℕ) {r : Scanned} (e : r ≡ scannedOf (scan s)) where
-  pub scan-refused : {k p : ℕ} → r ≡ Refuse k p → fileVerdict s ≡ Refuses k p
-  unfolding fileVerdict decode
-  scan-refused {k} {p} q = ap (λ (w : Scan). judged (decoded s w)) (refusal-is (scan s) k p (sym q ∙ e))
-
-  module _ (us vs : List ℕ) (h : Indexed (scan s) us vs) {t n : ℕ} (q : r ≡ Fields t n) where
-    pub fields-scanned : scan s ≡ found (take t us) (take n vs)
-    fields-scanned = fields-are (scan s) us vs t n (sym q ∙ e) h
-
-    pub fields-room : (t ≤ length us) × (n ≤ length vs)
-    fields-room = count-are (scan s) us vs t n (sym q ∙ e) h
-
-    pub fields-found : Found s (take t us) (take n vs)
-    fields-found = scan-found s (take t us) (take n vs) fields-scanned
-
-pub decoded-as : (s ts ns : List ℕ) → scan s ≡ found ts ns → decode s ≡ good (netIn s ts ns)
-unfolding decode
-decoded-as s ts ns e = ap (decoded s) e
+-- a refusal of checks 1 to 5
+pub bad-file : (s : List ℕ) {k p : ℕ} → decode s ≡ bad k p → fileVerdict s ≡ Refuses k p
+unfolding fileVerdict
+bad-file s e = ap judged e
 
 -- what the reader says of a file is what it says of its netlist
 judged-by : (s : List ℕ) {N : Net} → decode s ≡ good N → fileVerdict s ≡ readerVerdict N

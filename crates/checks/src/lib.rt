@@ -1,4 +1,5 @@
 // The reader's layer as run and rewriter see it: checks 1 to 10, a node by its number, a table's words.
+use circuit::WORDS;
 use circuit::node_count;
 use circuit::table_count;
 use circuit::table_place;
@@ -7,11 +8,9 @@ use cycles::rings::lowest_ring;
 use netlist::Answer;
 use netlist::Element;
 use netlist::Node;
-use netlist::Scanned;
 use netlist::Verdict;
 use opening::fill_circuit;
 use opening::rows::node_of;
-use reader::scan_fields;
 use reader::table_part;
 use rules::readers::lowest_unread;
 use rules::sources::lowest_bad_source;
@@ -74,7 +73,8 @@ fn net_verdict(file: &[u8], net: &mut [u16]) -> Verdict
         × (r ≡ readerVerdict N) × (r ≡ Verdict.Fine → Complete inClock N (orderOf (now (net .exit)))) ⌝ }
 {
     let n = node_count(file, net);
-    let source = lowest_bad_source(file, net);
+    let mut marks = [0u8; 1024];
+    let source = lowest_bad_source(file, net, &mut marks);
     if source < n {
         return Verdict::Refuses(6, source as u16);
     }
@@ -82,7 +82,7 @@ fn net_verdict(file: &[u8], net: &mut [u16]) -> Verdict
     if width < n {
         return Verdict::Refuses(7, width as u16);
     }
-    let unread = lowest_unread(file, net);
+    let unread = lowest_unread(file, net, &marks);
     if unread < n {
         return Verdict::Refuses(8, unread as u16);
     }
@@ -94,14 +94,9 @@ pub fn open_file(file: &[u8], net: &mut [u16]) -> Verdict
     requires { ⌜ circuitWords ≤ length (now net) ⌝ }
     ensures { λ r. ⌜ Opened (now (file .entry)) (now (net .exit)) r ⌝ }
 {
-    let mut tables = [0u16; 16];
-    let mut nodes = [0u16; 1024];
-    match scan_fields(file, &mut tables, &mut nodes) {
-        Scanned::Refuse(number, place) => Verdict::Refuses(number, place),
-        Scanned::Fields(t, n) => {
-            fill_circuit(file, &tables[..t], &nodes[..n], net);
-            net_verdict(file, net)
-        }
+    match fill_circuit(file, net) {
+        Verdict::Refuses(number, place) => Verdict::Refuses(number, place),
+        Verdict::Fine => net_verdict(file, net),
     }
 }
 
@@ -109,7 +104,7 @@ pub fn open_file(file: &[u8], net: &mut [u16]) -> Verdict
 pub fn check_file(file: &[u8]) -> Answer
     ensures { λ r. ⌜ r ≡ checkAnswer (now (file .entry)) ⌝ }
 {
-    let mut net = [0u16; 10304];
+    let mut net = [0u16; WORDS];
     match open_file(file, &mut net) {
         Verdict::Refuses(number, place) => Answer::Refused(number, place),
         Verdict::Fine => Answer::Accepted(file.len()),
@@ -120,7 +115,7 @@ pub fn check_file(file: &[u8]) -> Answer
 pub fn read_node(file: &[u8], v: usize) -> NodeAnswer
     ensures { λ r. ⌜ r ≡ nodeOfFile (now (file .entry)) v ⌝ }
 {
-    let mut net = [0u16; 10304];
+    let mut net = [0u16; WORDS];
     let none = Node {
         element: Element::Input,
         width: 0,
@@ -152,7 +147,7 @@ pub fn read_node(file: &[u8], v: usize) -> NodeAnswer
 fn place_of(file: &[u8], k: usize) -> TablePlace
     ensures { λ r. ⌜ Placed (now (file .entry)) k r ⌝ }
 {
-    let mut net = [0u16; 10304];
+    let mut net = [0u16; WORDS];
     match open_file(file, &mut net) {
         Verdict::Refuses(number, place) => TablePlace::Refuse(number, place),
         Verdict::Fine => {

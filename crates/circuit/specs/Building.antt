@@ -111,9 +111,6 @@ pub record Pushed (l : List ℕ) (x : Node) (m : List ℕ) : Type 0 where
   pub tables : tablesOf m ≡ tablesOf l
   pub nodes : nodesOf m ≡ nodesOf l ++ (x ∷ [])
 
-pub pushed-as : {l m : List ℕ} {x y : Node} → x ≡ y → Pushed l x m → Pushed l y m
-pushed-as {l} {m} e t = subst (λ (y : Node). Pushed l y m) e t
-
 -- a row of the same words
 pub row-same : (l m : List ℕ) (u : ℕ) → ((k : ℕ) → k < 8 → field m u k ≡ field l u k) → rowAt m u ≡ rowAt l u
 row-same l m u e = λ i. record {

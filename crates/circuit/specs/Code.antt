@@ -157,9 +157,6 @@ element-named x t (Gate Choose) = refl
 element-named x t (Gate (Part b)) = refl
 element-named x t (Gate Join) = refl
 
-pub element-back : (e : Element) → elementBy (codeOf e) (numberOr 0 e) (tableOr 0 e) ≡ e
-element-back = element-named 0 0
-
 -- ---- what a code tells of its element
 
 pub code-input : (e : Element) → eqb (codeOf e) 0 ≡ isInput e

@@ -10,8 +10,8 @@ use circuit::wide;
 use order::Steps;
 use order::count_at;
 use order::order_nodes;
-use order::proposal::AREA;
-use order::proposal::propose;
+use proposal::AREA;
+use proposal::propose;
 ghost use mathlib.Core.Path.{_≡_};
 ghost use Prim.Native.Nat.{_<_, _≤_};
 ghost use Rattle.lists.specs.Lists.{lowest};
@@ -163,11 +163,11 @@ pub fn lowest_cycle(file: &[u8], net: &mut [u16]) -> usize
     ensures { λ N r. ⌜ (netOf (now (file .entry)) (now (net .exit)) ≡ N) × Circuit (now (file .entry)) (now (net .exit))
         × (r ≡ lowest (size N) (reachesItself inClock N)) × (r ≡ size N → Complete inClock N (orderOf (now (net .exit)))) ⌝ }
 {
-    let mut area = [0u16; AREA];
-    propose(file, net, Steps::InClock, &mut area);
-    let placed = order_nodes(file, net, &area);
+    let placed = order_nodes(file, net);
     if placed == node_count(file, net) {
         return placed;
     }
+    let mut area = [0u16; AREA];
+    propose(file, net, Steps::InClock, &mut area);
     lowest_on_cycle(file, net, Steps::InClock, &area)
 }

@@ -7,8 +7,8 @@ use circuit::register;
 use circuit::source_of;
 use circuit::wide;
 use order::Steps;
-use order::proposal::AREA;
-use order::proposal::propose;
+use proposal::AREA;
+use proposal::propose;
 ghost use mathlib.Core.Path.{_≡_};
 ghost use mathlib.Core.Bool.{true};
 ghost use Prim.Native.Nat.{_≤_, _<_};
@@ -18,6 +18,7 @@ ghost use Rattle.netlist.specs.Net.{Net, size, inRegisters, Sourced, RankedIn};
 ghost use Rattle.netlist.specs.Reach.{reachesItself};
 ghost use Rattle.circuit.specs.Circuit.{netOf, Circuit};
 ghost use Rattle.circuit.specs.Opened.{opened};
+ghost use Rattle.cycles.specs.Falls.{Falls};
 
 // 1 where v is a register, 0 where it is another node or none.
 fn register_at(file: &[u8], net: &[u16], v: usize) -> usize
@@ -41,29 +42,6 @@ fn source_at(file: &[u8], net: &[u16], v: usize) -> usize
     } else {
         0
     }
-}
-
-// 1 where a rank is no higher than another.
-fn at_most(rank: u16, other: u16) -> usize
-    ensures { λ r. ⌜ (r ≤ 1) × (r ≡ 0 → other < rank) ⌝ }
-{
-    if rank <= other { 1 } else { 0 }
-}
-
-// 1 where a register's rank is no higher than that of what it reads, without a branch: registers stand among the others in no order.
-fn fault(register: usize, rank: u16, read: u16) -> usize
-    requires { ⌜ register ≤ 1 ⌝ }
-    ensures { λ r. ⌜ (r ≤ 1) × (r ≡ 0 → 0 < register → read < rank) ⌝ }
-{
-    (register + at_most(rank, read)) / 2
-}
-
-// 1 where both are.
-fn both(x: usize, y: usize) -> usize
-    requires { ⌜ (x ≤ 1) × (y ≤ 1) ⌝ }
-    ensures { λ r. ⌜ r ≤ x ⌝ }
-{
-    (x + y) / 2
 }
 
 // Registers of which each reads the next: how many, and the rank of what the last one reads.
@@ -111,59 +89,44 @@ fn rank_chain(file: &[u8], net: &[u16], start: usize, chain: Chain, ranks: &mut 
     }
 }
 
-// A rank that stands, or another where there is none yet.
-fn rank_or(rank: u16, other: u16) -> u16 {
-    if rank == 0 { other } else { rank }
-}
-
-// Of 64 nodes from one on: ranks 1 the registers that read no register, and lists those that do. Both stand among the others in no order, so there is
-// no branch on them: each node is put on the list, and the next one over it unless it stays.
-fn list_chained(file: &[u8], net: &[u16], from: usize, ranks: &mut [u16], list: &mut [u16]) -> usize
-    requires { ⌜ Circuit (now file) (now net) × (from ≤ 1024) ⌝ }
-    ensures { λ r. ⌜ r ≤ 64 ⌝ }
+// Ranks register v, where it has no rank from a chain before, and the registers back from it.
+fn rank_register(file: &[u8], net: &[u16], v: usize, ranks: &mut [u16])
+    requires { ⌜ Circuit (now file) (now net) ⌝ }
 {
-    let mut count: usize = 0;
-    let mut i: usize = 0;
-    while i < 64 {
-        let v = from + i;
-        let register = register_at(file, net, v);
-        let chained = both(register, register_at(file, net, source_at(file, net, v)));
-        let rank = rank_or(number_at(ranks, v), (register - chained) as u16);
-        put_number(ranks, v, rank);
-        put_number(list, count, v as u16);
-        count = count + chained;
-        i = i + 1;
+    if register_at(file, net, source_at(file, net, v)) == 0 {
+        put_number(ranks, v, 1);
+        return;
     }
-    count
-}
-
-// Ranks the registers on a list.
-fn rank_listed(file: &[u8], net: &[u16], list: &[u16], count: usize, ranks: &mut [u16])
-    requires { ⌜ Circuit (now file) (now net) × (count ≤ 64) ⌝ }
-{
-    let mut i: usize = 0;
-    while i < count {
-        let v = wide(number_at(list, i));
-        // It may have a rank from a chain before.
-        if number_at(ranks, v) == 0 {
-            let chain = mark_chain(file, net, v, ranks);
-            rank_chain(file, net, v, chain, ranks);
-        }
-        i = i + 1;
+    if number_at(ranks, v) == 0 {
+        let chain = mark_chain(file, net, v, ranks);
+        rank_chain(file, net, v, chain, ranks);
     }
 }
 
-// Ranks all registers, 64 nodes at a time.
+// Ranks all registers.
 fn rank_registers(file: &[u8], net: &[u16], ranks: &mut [u16])
     requires { ⌜ Circuit (now file) (now net) ⌝ }
 {
     let n = node_count(file, net);
-    let mut list = [0u16; 64];
-    let mut from: usize = 0;
-    while from < n {
-        let count = list_chained(file, net, from, ranks, &mut list);
-        rank_listed(file, net, &list, count, ranks);
-        from = from + 64;
+    let mut v: usize = 0;
+    while v < n {
+        if register(file, net, v) == 1 {
+            rank_register(file, net, v, ranks);
+        }
+        v = v + 1;
+    }
+}
+
+// Whether v is no register, or has a higher rank than what it reads.
+fn falls(file: &[u8], net: &[u16], v: usize, ranks: &[u16]) -> bool
+    ghost { Net }
+    requires { λ N. opened 𝓤 (now file) (now net) N (v < size N) }
+    ensures { λ N r. ⌜ (r ≡ true → Falls N (λ u. getD (now (ranks .entry)) u 0) v) ⌝ }
+{
+    if register(file, net, v) == 1 {
+        number_at(ranks, source_of(file, net, v, 0)) < number_at(ranks, v)
+    } else {
+        true
     }
 }
 
@@ -175,18 +138,14 @@ fn ranked(file: &[u8], net: &[u16], ranks: &[u16]) -> bool
 {
     let n = node_count(file, net);
     let mut v: usize = 0;
-    let mut faults: usize = 0;
     while v < n {
-        let u = source_of(file, net, v, 0);
-        faults = faults
-            + fault(
-                register(file, net, v),
-                number_at(ranks, v),
-                number_at(ranks, u),
-            );
-        v = v + 1;
+        if falls(file, net, v, ranks) {
+            v = v + 1;
+        } else {
+            return false;
+        }
     }
-    faults == 0
+    true
 }
 
 // The lowest register on a ring, or the number of nodes.

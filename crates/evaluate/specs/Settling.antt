@@ -17,7 +17,7 @@ use Rattle.netlist.specs.Checks.{WellFormed}
 use Rattle.netlist.specs.declared.Element.{Element}
 use Rattle.netlist.specs.declared.Element.the-variants.{Input, Output, Register, Async, Clocked, Gate}
 use Rattle.circuit.specs.Order.{Stands, Complete}
-use Rattle.behaviour.specs.Run.{gives-now, holderOf, contentsNow, again}
+use Rattle.behaviour.specs.Run.{gives-now, holderOf, contentsNow, contents-now, again}
 use Rattle.behaviour.specs.Gives.{operate-cong}
 use Rattle.evaluate.specs.Rows.{rowTest, rowOf, RowFits}
 use Rattle.evaluate.specs.Clock.{loaded, nodeWord, OperandsFit, clockWords, Evaluated}
@@ -105,11 +105,13 @@ module _ {N : Net} {order before after : List ℕ} {i : ℕ} (wf : WellFormed N)
 
     module _ (x : ℕ) (is : x ≡ nodeWord N after v) (room : size N ≤ length before) (new : loaded (elementAt N v) ≡ false) where
       x-right : x ≡ getD (clockWords N before) v 0
-      unfolding clockWords nodeWord again contentsNow contentsAt source
+      unfolding clockWords nodeWord again source
       x-right =
           is
           ∙ now-same (contentsAt N v) (widthAt N v) (λ p. widthAt N (source N v p)) (getD after v 0) (getD (rowOf Inputs N before) (portOf N v) 0) (getD (rowOf State N before) (holderOf N v) 0)
           (λ p. getD after (source N v p) 0) (λ p. getD (clockWords N before) (source N v p) 0) (elementAt N v) new read-right
+          ∙ ap (λ (M : List ℕ). gives-now M (elementAt N v) (widthAt N v) (λ p. widthAt N (source N v p)) (getD (rowOf Inputs N before) (portOf N v) 0) (getD (rowOf State N before) (holderOf N v) 0)
+          (λ p. getD (clockWords N before) (source N v p) 0)) (sym (contents-now N (rowOf State N before) v))
           ∙ sym (settled N wf (rowOf State N before) (rowOf Inputs N before) v settle-inside)
 
       here : (u : ℕ) → u ≡ v → getD (set after v x) u 0 ≡ getD (clockWords N before) u 0

@@ -109,7 +109,6 @@ pub fn evaluate(file: &[u8], net: &[u16], words: &mut [u16])
     let mut i: usize = 0;
     while i < n {
         let v = order_of(file, net, i);
-        // The nodes that read nothing come first in the order, so that this branch is foreseen.
         if !keeps_word(code_of(file, net, v)) {
             put_number(words, v, node_word(file, net, v, words));
         }

@@ -1,12 +1,12 @@
 -- A content that names an element has room for the element's sources.
-use Prim.Native.Nat.{ℕ, suc, _+_, _*_, _≤_, _<_}
-use mathlib.Core.Path.{_≡_, _∙_, sym, ap, refl, subst}
+use Prim.Native.Nat.{ℕ, _+_, _*_, _≤_, _<_}
+use mathlib.Core.Path.{_≡_, ap, subst}
 use mathlib.Core.List.{List}
-use mathlib.Core.Bool.{Bool, true, false, cond}
+use mathlib.Core.Bool.{Bool, true, cond}
 use native.Mathlib.Omega.{arith}
 use lib.ListN.{length, getD}
-use lib.Dec.{T, ltb, leb, eqb, leb→le}
-use borrow.Author.Tests.{ltb-true, ltb-false, eqb-true, eqb-false, ne-eqb}
+use lib.Dec.{leb, eqb, leb→le}
+use borrow.Author.Tests.{ne-eqb}
 use Rattle.lists.specs.Paths.{arms, arms-lt, arms-eq}
 use Rattle.lists.specs.TableRule.{at}
 use Rattle.words.specs.Gates.{operandsOf}

@@ -1,14 +1,13 @@
-// Whether a node's content is well made, what check 5 asks of a field, with no branch on its kind: kinds follow no pattern, and such branches
-// would be predicted wrong.
+// Whether a node's content is well made: what check 5 asks of a field.
 use words::fits_width;
+use words::operand_count;
 use words::word_at;
 ghost use mathlib.Core.Path.{_≡_};
-ghost use Prim.Native.Nat.{_<_, _≤_};
-ghost use lib.ListN.{getD};
-ghost use lib.Dec.{eqb};
-ghost use Rattle.lists.specs.Paths.{pick};
-ghost use Rattle.netlist.specs.NodeField.{nodeRead};
-ghost use Rattle.nodes.specs.Good.{lengthByCode, wordByCode};
+ghost use Prim.Native.Nat.{_+_, _<_, _≤_};
+ghost use lib.ListN.{length, getD};
+ghost use Rattle.words.specs.Words.{word};
+ghost use Rattle.netlist.specs.declared.Element.{Element};
+ghost use Rattle.netlist.specs.NodeField.{extra, gateLength, opRead, gateRead, withLength, withReset, kindRead, nodeWith, nodeRead};
 
 pub fn wide8(x: u8) -> usize
     ensures { λ r. ⌜ (r ≡ x) × (r ≤ 255) ⌝ }
@@ -16,39 +15,77 @@ pub fn wide8(x: u8) -> usize
     x as usize
 }
 
-// A number that counts for gates only.
-pub fn of_gate(kind: u8, x: usize) -> usize
-    ensures { λ r. ⌜ (r ≡ pick (eqb kind 5) x 0) × (r ≤ x) ⌝ }
+// What the content of a gate holds after its sources: a constant two bytes, a part one.
+fn held(op: usize) -> usize
+    ensures { λ r. ⌜ (r ≡ extra op) × (r ≤ 2) ⌝ }
 {
-    if kind == 5 { x } else { 0 }
+    match op {
+        0 => 2,
+        10 => 1,
+        _ => 0,
+    }
 }
 
-// Three bits of a number for each code: how long its content is beyond kind and width, and where its word stands, 0 where it has none.
-const LENGTHS: u64 = 1582040158689040;
-
-const WORDS: u64 = 119040;
-
-fn code_length(code: usize) -> usize
-    requires { ⌜ code < 17 ⌝ }
-    ensures { λ r. ⌜ r ≡ getD lengthByCode code 0 ⌝ }
+// How long the content of a gate is, by the number of its operation.
+pub fn gate_length(op: usize) -> usize
+    requires { ⌜ op < 12 ⌝ }
+    ensures { λ r. ⌜ r ≡ gateLength op ⌝ }
 {
-    2 + ((LENGTHS >> (3 * code)) % 8) as usize
+    3 + 2 * operand_count(op) + held(op)
 }
 
-fn code_word(code: usize) -> usize
-    requires { ⌜ code < 17 ⌝ }
-    ensures { λ r. ⌜ (r ≡ getD wordByCode code 0) × (r ≤ 7) ⌝ }
+// A gate: a known operation, the right length, a constant that fits.
+fn op_good(s: &[u8]) -> bool
+    requires { ⌜ getD (now s) 1 0 ≤ 16 ⌝ }
+    ensures { λ r. ⌜ r ≡ nodeWith (now (s .entry)) (gateRead (opRead (now (s .entry)))) .good ⌝ }
 {
-    ((WORDS >> (3 * code)) % 8) as usize
+    if s.len() < 3 {
+        return false;
+    }
+    let op = s[2];
+    if 11 < op {
+        return false;
+    }
+    if s.len() != gate_length(wide8(op)) {
+        return false;
+    }
+    if op == 0 {
+        fits_width(word_at(s, 3), s[1])
+    } else {
+        true
+    }
 }
 
-// The width that the word must fit: where there is none, any two bytes do.
-fn word_bits(place: usize, width: u8) -> u8
-    ensures { λ r. ⌜ (r ≡ pick (eqb place 0) 16 width) × (width ≤ 16 → r ≤ 16) ⌝ }
+// What has a reset word: the right length, and a word that fits.
+fn reset_good(s: &[u8], size: usize, place: usize) -> bool
+    requires { ⌜ (getD (now s) 1 0 ≤ 16) × (place + 1 < size) ⌝ }
+    ensures { λ r. ⌜ ((e : Element) → r ≡ nodeWith (now (s .entry)) (withLength (now (s .entry)) size (withReset (now (s .entry)) (word (now (s .entry)) place) e)) .good) ⌝ }
 {
-    if place == 0 { 16 } else { width }
+    if s.len() == size {
+        fits_width(word_at(s, place), s[1])
+    } else {
+        false
+    }
 }
 
+// By the kind.
+fn kind_good(s: &[u8]) -> bool
+    requires { ⌜ (2 ≤ length (now s)) × (getD (now s) 1 0 ≤ 16) ⌝ }
+    ensures { λ r. ⌜ r ≡ nodeWith (now (s .entry)) (kindRead (getD (now (s .entry)) 0 0) (now (s .entry))) .good ⌝ }
+{
+    let kind = s[0];
+    match kind {
+        0 => s.len() == 2,
+        1 => s.len() == 4,
+        2 => reset_good(s, 6, 4),
+        3 => s.len() == 5,
+        4 => reset_good(s, 7, 5),
+        5 => op_good(s),
+        _ => false,
+    }
+}
+
+// A kind and a width from 1 to 16.
 pub fn content_good(s: &[u8]) -> bool
     ensures { λ r. ⌜ r ≡ nodeRead (now (s .entry)) .good ⌝ }
 {
@@ -62,21 +99,5 @@ pub fn content_good(s: &[u8]) -> bool
     if 16 < width {
         return false;
     }
-    let kind = s[0];
-    if 5 < kind {
-        return false;
-    }
-    let last = of_gate(kind, 2);
-    if s.len() <= last {
-        return false;
-    }
-    let code = of_gate(kind, 5) + wide8(s[last]);
-    if 16 < code {
-        return false;
-    }
-    if s.len() != code_length(code) {
-        return false;
-    }
-    let place = code_word(code);
-    fits_width(word_at(s, place), word_bits(place, width))
+    kind_good(s)
 }

@@ -72,23 +72,6 @@ pub fn source_count(e: Element) -> usize
     }
 }
 
-// 1 where i is below n. Found by arithmetic, and so is what hangs on it: how many sources a node has follows no pattern, and the branch that a test may
-// become would be predicted wrong.
-fn kept(i: usize, n: usize) -> u16
-    requires { ⌜ (i < 3) × (n ≤ 3) ⌝ }
-    ensures { λ r. ⌜ r ≡ pick (ltb i n) 1 0 ⌝ }
-{
-    ((n + 3 - i) / 4) as u16
-}
-
-// A word that counts where i is below n. It is there in any case.
-fn word_kept(word: u16, i: usize, n: usize) -> u16
-    requires { ⌜ (i < 3) × (n ≤ 3) ⌝ }
-    ensures { λ r. ⌜ r ≡ pick (ltb i n) word 0 ⌝ }
-{
-    word * kept(i, n)
-}
-
 // The word at a place, or 0 where i is not below n.
 fn word_if(s: &[u8], at: usize, i: usize, n: usize) -> u16
     requires { ⌜ (i < n → at + 1 < length (now s)) ⌝ }
@@ -105,13 +88,6 @@ pub fn sources_from(s: &[u8], at: usize, n: usize) -> Sources
     requires { ⌜ (at + 2 * n ≤ length (now s)) × (n ≤ 3) ⌝ }
     ensures { λ r. ⌜ r ≡ sourcesFrom (now (s .entry)) at n ⌝ }
 {
-    if 5 < s.len() - at {
-        let first = word_kept(word_at(s, at), 0, n);
-        let second = word_kept(word_at(s, at + 2), 1, n);
-        let third = word_kept(word_at(s, at + 4), 2, n);
-        return [first, second, third];
-    }
-    // So near the end only the words that count are there.
     let first = word_if(s, at, 0, n);
     let second = word_if(s, at + 2, 1, n);
     let third = word_if(s, at + 4, 2, n);

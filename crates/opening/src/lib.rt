@@ -1,36 +1,23 @@
-// Opens a file whose fields are found: its circuit.
+// Opens a file: reads its fields one by one, and puts them into a circuit.
 mod fields;
 pub mod rows;
 
 use circuit::push_row;
 use circuit::table_count;
-use circuit::wide;
 use fields::row_at;
+use netlist::Step;
+use netlist::Verdict;
+use reader::head_refusal;
+use reader::step_at;
 ghost use mathlib.Core.Path.{_≡_};
-ghost use mathlib.Core.List.{[]};
-ghost use Prim.Native.Nat.{_≤_};
+ghost use mathlib.Core.List.{List, [], _∷_, _++_};
+ghost use Prim.Native.Nat.{ℕ, _<_, _≤_};
 ghost use lib.ListN.{length};
-ghost use Rattle.netlist.specs.Net.{Net};
-ghost use Rattle.netlist.specs.ScanLaws.{Found};
-ghost use Rattle.netlist.specs.File.{netIn};
-ghost use Rattle.circuit.specs.Circuit.{circuitWords, tablesOf, netOf, Circuit};
+ghost use Rattle.circuit.specs.Circuit.{circuitWords, tablesOf, Circuit};
 ghost use Rattle.circuit.specs.Building.{Built};
+ghost use Rattle.opening.specs.Opening.{Filled};
 
-// The head of a circuit with no node, and where its tables stand.
-pub fn put_head(tables: &[u16], net: &mut [u16])
-    requires { ⌜ (length (now tables) ≤ 16) × (circuitWords ≤ length (now net)) ⌝ }
-    ensures { λ _. ⌜ Built (now (tables .entry)) [] (now (net .exit)) ⌝ }
-{
-    net[0] = 0;
-    net[1] = tables.len() as u16;
-    let mut t: usize = 0;
-    while t < tables.len() {
-        net[2 + t] = tables[t];
-        t = t + 1;
-    }
-}
-
-// The same, with the tables of another circuit.
+// The head of a circuit with no node, and the tables of another.
 pub fn copy_head(file: &[u8], net: &[u16], new: &mut [u16])
     requires { ⌜ Circuit (now file) (now net) × (circuitWords ≤ length (now new)) ⌝ }
     ensures { λ _. ⌜ Built (tablesOf (now (net .entry))) [] (now (new .exit)) ⌝ }
@@ -45,17 +32,46 @@ pub fn copy_head(file: &[u8], net: &[u16], new: &mut [u16])
     }
 }
 
-// The circuit of a file's netlist. Each node of the file is read once.
-pub fn fill_circuit(file: &[u8], tables: &[u16], nodes: &[u16], net: &mut [u16])
-    ghost { Net }
-    requires { λ N. ⌜ netIn (now file) (now tables) (now nodes) ≡ N ⌝ ∗ ⌜ Found (now file) (now tables) (now nodes) × (circuitWords ≤ length (now net)) ⌝ }
-    ensures { λ N _. ⌜ (netOf (now (file .entry)) (now (net .exit)) ≡ N) × Circuit (now (file .entry)) (now (net .exit)) ⌝ }
+// Enters the place of a table after t tables, where there is no node yet.
+fn put_table(net: &mut [u16], t: usize, at: u16)
+    requires { ⌜ (t < 16) × (circuitWords ≤ length (now net)) ⌝ }
+    ensures { λ _. ⌜ ((ts : List ℕ) → t ≡ length ts → Built ts [] (now (net .entry)) → Built (ts ++ (at ∷ [])) [] (now (net .exit))) ⌝ }
 {
-    put_head(tables, net);
-    let mut v: usize = 0;
-    while v < nodes.len() {
-        let row = row_at(file, wide(nodes[v]));
-        push_row(net, v, row);
-        v = v + 1;
+    net[1] = (t + 1) as u16;
+    net[2 + t] = at;
+}
+
+// Checks 1 to 5, and the circuit of the file's netlist: each field is read once. After a refusal nothing is said of the circuit.
+pub fn fill_circuit(file: &[u8], net: &mut [u16]) -> Verdict
+    requires { ⌜ circuitWords ≤ length (now net) ⌝ }
+    ensures { λ r. ⌜ Filled (now (file .entry)) (now (net .exit)) r ⌝ }
+{
+    if 46000 < file.len() {
+        return Verdict::Refuses(1, 0);
+    }
+    let head = head_refusal(file);
+    if head != 0 {
+        return Verdict::Refuses(head, 0);
+    }
+    net[0] = 0;
+    net[1] = 0;
+    let mut at: usize = 4;
+    let mut t: usize = 0;
+    let mut n: usize = 0;
+    loop {
+        match step_at(file, at, t, n) {
+            Step::Refuse(number, place) => return Verdict::Refuses(number, place),
+            Step::EndField => return Verdict::Fine,
+            Step::TableField(next) => {
+                put_table(net, t, at as u16);
+                t = t + 1;
+                at = next;
+            }
+            Step::NodeField(next) => {
+                push_row(net, n, row_at(file, at));
+                n = n + 1;
+                at = next;
+            }
+        }
     }
 }

@@ -5,6 +5,7 @@ use mathlib.Core.List.{List}
 use Prim.Native.Nat.{ℕ, _≤_, _<_}
 use lib.ListN.{length}
 use Rattle.lists.specs.Lists.{allBelow, countBelow}
+use Rattle.lists.specs.Sections.{section}
 use Rattle.netlist.specs.Net.{Class, inClock, inRegisters, Net, size, elementAt, source}
 use Rattle.netlist.specs.Rank.{Through}
 use Rattle.circuit.specs.Order.{Stands, Ordered, Complete}
@@ -16,6 +17,13 @@ use Rattle.order.specs.declared.Steps.the-variants.{InClock, InRegisters
 abbrev pub classOf : Steps → Class
 classOf InClock = inClock
 classOf InRegisters = inRegisters
+
+-- the sections of the area of an order in the making
+abbrev pub orderIn : List ℕ → List ℕ
+orderIn l = section 0 1024 l
+
+abbrev pub flagsIn : List ℕ → List ℕ
+flagsIn l = section 3072 1024 l
 
 -- ---- an order in the making: k nodes stand in it, and these are flagged
 

@@ -9,7 +9,7 @@ use native.Mathlib.Omega.{arith}
 use lib.ListN.{length, getD, set, replicate, length-set, length-replicate}
 use lib.Seq.{getD-set-same, getD-set-other}
 use lib.Dec.{ltb, eqb}
-use Rattle.lists.specs.Lists.{one, anyBelow, allBelow, countBelow}
+use Rattle.lists.specs.Lists.{one, countBelow}
 use Rattle.lists.specs.BelowLaws.{true-or-false, lt-suc-split, eqb-true, eqb-differ, allBelow-elim, allBelow-fails, anyBelow-intro, countBelow-le}
 use Rattle.lists.specs.SearchLaws.{count-one-more, count-less}
 use Rattle.netlist.specs.Net.{Class, Net, size, elementAt, source, Sourced}
@@ -57,6 +57,9 @@ module _ (K : Class) (N : Net) where
     pub full : k ≡ size N → (v : ℕ) → v < size N → on flags v ≡ true
     full e v l = ⊎-elim (λ b. b) (λ b. absurd (let r = room v l b in omega arith)) (true-or-false (on flags v))
 
+    pub none-waiting : k ≡ size N → Waiting (ready K N) flags (size N)
+    none-waiting e v l b = absurd (true≢false (sym (full e v l) ∙ b))
+
     pub complete : k ≡ size N → Complete K N order
     complete e = record {
       ordered = subst (Ordered K N order) e (t .ordered);
@@ -88,15 +91,6 @@ module _ (K : Class) (N : Net) where
         let e = kept-in order k v i a in
         subst (λ (x : ℕ). Stands (set order k v) i (source N x p)) (sym e)
         (stands-kept order k v i (source N (getD order i 0) p) (omega arith) (o .after i p a (subst (λ (x : ℕ). p < K .of (elementAt N x)) e q)))
-
-  placed-past : {flags order : List ℕ} {k : ℕ} → Placed K N flags order k → (v : ℕ) → Placed K N flags (set order k v) k
-  placed-past {flags} {order} {k} t v = record {
-    flags-room = t .flags-room;
-    order-room = subst (λ (m : ℕ). size N ≤ m) (sym (length-set order k v)) (t .order-room);
-    ordered = record { inside = old-inside (t .ordered) v; after = old-after (t .ordered) v };
-    count = t .count;
-    stands = λ u m e. stands-kept order k v k u (le-refl k) (t .stands u m e);
-  }
 
   module _ {flags order : List ℕ} {k : ℕ} (t : Placed K N flags order k) (sourced : Sourced N) (v : ℕ) (l : v < size N) (off : on flags v ≡ false) (all : ready K N flags v ≡ true) where
     space : k < length order
@@ -189,3 +183,25 @@ module _ (K : Class) (N : Net) where
 
         left : k < size N → (v : ℕ) × (v < size N) × (on flags v ≡ false) → (u : ℕ) × Through K N u u
         left l (v, h, e) = left-loop v h e
+
+  -- ---- the outcome is one of the first places
+
+  module _ (order other : List ℕ) (same : (i : ℕ) → i < size N → getD other i 0 ≡ getD order i 0) where
+    stands-as : (k v : ℕ) → k ≤ size N → Stands order k v → Stands other k v
+    stands-as k v l (j, m, e) = (j, m, same j (omega arith) ∙ e)
+
+    ordered-as : (k : ℕ) → k ≤ size N → Ordered K N order k → Ordered K N other k
+    ordered-as k l o = record {
+      inside = λ i m. subst (λ (x : ℕ). x < size N) (sym (at i m)) (o .inside i m);
+      after = λ i p m q. subst (λ (x : ℕ). Stands other i (source N x p)) (sym (at i m))
+          (stands-as i (source N (getD order i 0) p) (omega arith) (o .after i p m (subst (λ (x : ℕ). p < K .of (elementAt N x)) (at i m) q)));
+    }
+      where
+        at : (i : ℕ) → i < k → getD other i 0 ≡ getD order i 0
+        at i m = same i (omega arith)
+
+    pub outcome-as : {k : ℕ} → Outcome K N order k → Outcome K N other k
+    outcome-as t = record { few = t .few; full = λ e. all (t .full e); left = t .left }
+      where
+        all : Complete K N order → Complete K N other
+        all d = record { ordered = ordered-as (size N) (le-refl (size N)) (d .ordered); all = λ v l. stands-as (size N) v (le-refl (size N)) (d .all v l) }

@@ -1,10 +1,8 @@
 // Puts the nodes of a circuit into an order in which each comes after what it reads within the clock.
-// A walk proposes the order and nobody trusts it: a node is placed only where all that it reads is placed.
-pub mod proposal;
+// A node is placed where all that it reads is placed; else it waits for a source that is missing.
 
-use areas::flag_at;
 use areas::number_at;
-use areas::put_flag;
+use areas::put_number;
 use circuit::clocked_rom;
 use circuit::node_count;
 use circuit::put_order;
@@ -13,12 +11,14 @@ use circuit::source_count;
 use circuit::source_of;
 use circuit::wide;
 ghost use mathlib.Core.Path.{_≡_};
-ghost use Prim.Native.Nat.{_<_, _≤_};
+ghost use mathlib.Core.Bool.{true, false};
+ghost use Prim.Native.Nat.{ℕ, _<_, _≤_};
+ghost use lib.ListN.{length, getD};
 ghost use Rattle.netlist.specs.Net.{Net, size, elementAt, inClock, Sourced};
 ghost use Rattle.circuit.specs.Circuit.{netOf, orderOf, Circuit};
 ghost use Rattle.circuit.specs.Opened.{opened};
 ghost use Rattle.order.specs.Pass.{Waiting};
-ghost use Rattle.order.specs.Order.{classOf, Placed, ready, PlacedOnce, PlacedPass, Outcome};
+ghost use Rattle.order.specs.Order.{classOf, flagsIn, orderIn, Placed, ready, PlacedOnce, PlacedPass, Outcome};
 
 // The steps that count: those within the clock (check 9), or those into registers (check 10).
 pub enum Steps {
@@ -42,114 +42,181 @@ pub fn count_at(file: &[u8], net: &[u16], steps: Steps, v: usize) -> usize
     }
 }
 
-// Whether all that node v reads within the clock is flagged.
-fn is_ready(file: &[u8], net: &[u16], flags: &[u8], v: usize) -> bool
+// The area of an order in the making: the nodes that stand in it; for each node the first that waits for it and the next that waits with it, one more
+// than their numbers, which nobody trusts; and a flag for each node that stands in the order.
+const HEADS: usize = 1024;
+
+const NEXTS: usize = 2048;
+
+const FLAGS: usize = 3072;
+
+const PLACING: usize = 4096;
+
+// No source is missing.
+const NONE: usize = 65535;
+
+// The first source of node v within the clock that is not flagged, or none.
+fn missing(file: &[u8], net: &[u16], area: &[u16], v: usize) -> usize
     ghost { Net }
-    requires { λ N. opened 𝓤 (now file) (now net) N (v < size N) }
-    ensures { λ N r. ⌜ r ≡ ready inClock N (now (flags .entry)) v ⌝ }
+    requires { λ N. opened 𝓤 (now file) (now net) N (Sourced N × (v < size N) × (length (now area) ≡ 4096)) }
+    ensures { λ N r. ⌜ (r ≡ 65535 → ready inClock N (flagsIn (now (area .entry))) v ≡ true) × (r < 65535 → ready inClock N (flagsIn (now (area .entry))) v ≡ false) × (r ≤ 65535) ⌝ }
 {
     let n = count_at(file, net, Steps::InClock, v);
     let mut p: usize = 0;
     while p < n {
-        if flag_at(flags, source_of(file, net, v, p)) == 0 {
-            return false;
+        let u = source_of(file, net, v, p);
+        if number_at(area, FLAGS + u) == 0 {
+            return u;
         }
         p = p + 1;
     }
-    true
+    NONE
 }
 
-// Places node v next where it is ready and not placed yet; gives the number of nodes placed.
-fn place(file: &[u8], net: &mut [u16], flags: &mut [u8], v: usize, k: usize) -> usize
-    ghost { Net }
-    requires { λ N. opened 𝓤 (now file) (now net) N (Sourced N × (v < size N) × Placed inClock N (now flags) (orderOf (now net)) k) }
-    ensures { λ N r. ⌜ (netOf (now (file .entry)) (now (net .exit)) ≡ N) × Circuit (now (file .entry)) (now (net .exit))
-        × PlacedOnce inClock N (now (flags .entry)) (now (flags .exit)) (orderOf (now (net .exit))) k r v ⌝ }
+// Lets node v wait for node u.
+fn wait(v: usize, u: usize, area: &mut [u16])
+    requires { ⌜ (v < 1024) × (length (now area) ≡ 4096) ⌝ }
+    ensures { λ _. ⌜ (flagsIn (now (area .exit)) ≡ flagsIn (now (area .entry))) × (orderIn (now (area .exit)) ≡ orderIn (now (area .entry))) ⌝ }
 {
-    if 0 < flag_at(flags, v) {
+    if 1023 < u {
+        return;
+    }
+    put_number(area, NEXTS + v, number_at(area, HEADS + u));
+    put_number(area, HEADS + u, (v + 1) as u16);
+}
+
+// Places node v next where it is ready and not placed yet, or lets it wait; gives the number of nodes placed.
+fn place(file: &[u8], net: &[u16], v: usize, k: usize, area: &mut [u16]) -> usize
+    ghost { Net }
+    requires { λ N. opened 𝓤 (now file) (now net) N (Sourced N × (v < size N) × (length (now area) ≡ 4096) × Placed inClock N (flagsIn (now area)) (orderIn (now area)) k) }
+    ensures { λ N r. ⌜ PlacedOnce inClock N (flagsIn (now (area .entry))) (flagsIn (now (area .exit))) (orderIn (now (area .exit))) k r v ⌝ }
+{
+    if 0 < number_at(area, FLAGS + v) {
         return k;
     }
-    if is_ready(file, net, flags, v) {
-        put_flag(flags, v, 1);
-        put_order(file, net, k, v as u16);
-        return k + 1;
+    let u = missing(file, net, area, v);
+    if u < NONE {
+        wait(v, u, area);
+        return k;
     }
-    k
+    put_number(area, k, v as u16);
+    put_number(area, FLAGS + v, 1);
+    k + 1
 }
 
 // The same where v is a node.
-fn place_if(file: &[u8], net: &mut [u16], flags: &mut [u8], v: usize, k: usize) -> usize
+fn place_if(file: &[u8], net: &[u16], v: usize, k: usize, area: &mut [u16]) -> usize
     ghost { Net }
-    requires { λ N. opened 𝓤 (now file) (now net) N (Sourced N × Placed inClock N (now flags) (orderOf (now net)) k) }
-    ensures { λ N r. ⌜ (netOf (now (file .entry)) (now (net .exit)) ≡ N) × Circuit (now (file .entry)) (now (net .exit))
-        × Placed inClock N (now (flags .exit)) (orderOf (now (net .exit))) r ⌝ }
+    requires { λ N. opened 𝓤 (now file) (now net) N (Sourced N × (length (now area) ≡ 4096) × Placed inClock N (flagsIn (now area)) (orderIn (now area)) k) }
+    ensures { λ N r. ⌜ Placed inClock N (flagsIn (now (area .exit))) (orderIn (now (area .exit))) r ⌝ }
 {
     if v < node_count(file, net) {
-        place(file, net, flags, v, k)
+        place(file, net, v, k, area)
     } else {
         k
     }
 }
 
-// Tries the nodes that a hint proposes, in its order.
-fn follow(file: &[u8], net: &mut [u16], flags: &mut [u8], hint: &[u16]) -> usize
+// Tries the nodes that wait for node v.
+fn wake(file: &[u8], net: &[u16], v: usize, start: usize, area: &mut [u16]) -> usize
     ghost { Net }
-    requires { λ N. opened 𝓤 (now file) (now net) N (Sourced N × Placed inClock N (now flags) (orderOf (now net)) 0) }
-    ensures { λ N r. ⌜ (netOf (now (file .entry)) (now (net .exit)) ≡ N) × Circuit (now (file .entry)) (now (net .exit))
-        × Placed inClock N (now (flags .exit)) (orderOf (now (net .exit))) r ⌝ }
+    requires { λ N. opened 𝓤 (now file) (now net) N (Sourced N × (v ≤ 65535) × (length (now area) ≡ 4096) × Placed inClock N (flagsIn (now area)) (orderIn (now area)) start) }
+    ensures { λ N r. ⌜ Placed inClock N (flagsIn (now (area .exit))) (orderIn (now (area .exit))) r ⌝ }
+{
+    let mut w = wide(number_at(area, HEADS + v));
+    let mut k = start;
+    let mut i: usize = 0;
+    while i < 1024 {
+        if w == 0 {
+            return k;
+        }
+        let node = w - 1;
+        w = wide(number_at(area, NEXTS + node));
+        k = place_if(file, net, node, k, area);
+        i = i + 1;
+    }
+    k
+}
+
+// Tries the nodes that wait, from those for the first node of the order on.
+fn wake_all(file: &[u8], net: &[u16], start: usize, area: &mut [u16]) -> usize
+    ghost { Net }
+    requires { λ N. opened 𝓤 (now file) (now net) N (Sourced N × (length (now area) ≡ 4096) × Placed inClock N (flagsIn (now area)) (orderIn (now area)) start) }
+    ensures { λ N r. ⌜ Placed inClock N (flagsIn (now (area .exit))) (orderIn (now (area .exit))) r ⌝ }
 {
     let n = node_count(file, net);
-    let mut k: usize = 0;
+    let mut k = start;
     let mut i: usize = 0;
     while i < n {
-        k = place_if(file, net, flags, wide(number_at(hint, i)), k);
+        if k <= i {
+            return k;
+        }
+        k = wake(file, net, wide(number_at(area, i)), k, area);
         i = i + 1;
     }
     k
 }
 
 // One pass over the nodes in file order.
-fn sweep(file: &[u8], net: &mut [u16], flags: &mut [u8], start: usize) -> usize
+fn sweep(file: &[u8], net: &[u16], start: usize, area: &mut [u16]) -> usize
     ghost { Net }
-    requires { λ N. opened 𝓤 (now file) (now net) N (Sourced N × Placed inClock N (now flags) (orderOf (now net)) start) }
-    ensures { λ N r. ⌜ (netOf (now (file .entry)) (now (net .exit)) ≡ N) × Circuit (now (file .entry)) (now (net .exit))
-        × PlacedPass inClock N (now (flags .entry)) (now (flags .exit)) (orderOf (now (net .exit))) start r (size N) ⌝ }
+    requires { λ N. opened 𝓤 (now file) (now net) N (Sourced N × (length (now area) ≡ 4096) × Placed inClock N (flagsIn (now area)) (orderIn (now area)) start) }
+    ensures { λ N r. ⌜ PlacedPass inClock N (flagsIn (now (area .entry))) (flagsIn (now (area .exit))) (orderIn (now (area .exit))) start r (size N) ⌝ }
 {
     let n = node_count(file, net);
     let mut k = start;
     let mut v: usize = 0;
     while v < n {
-        k = place(file, net, flags, v, k);
+        k = place(file, net, v, k, area);
         v = v + 1;
     }
     k
 }
 
-// Passes until nothing more can be placed. After a good proposal the first pass places nothing.
-fn settle(file: &[u8], net: &mut [u16], flags: &mut [u8], start: usize) -> usize
+// Passes until all are placed, or nothing more can be. Where no node is behind a loop there is none.
+fn settle(file: &[u8], net: &[u16], start: usize, area: &mut [u16]) -> usize
     ghost { Net }
-    requires { λ N. opened 𝓤 (now file) (now net) N (Sourced N × Placed inClock N (now flags) (orderOf (now net)) start) }
-    ensures { λ N r. ⌜ (netOf (now (file .entry)) (now (net .exit)) ≡ N) × Circuit (now (file .entry)) (now (net .exit))
-        × Placed inClock N (now (flags .exit)) (orderOf (now (net .exit))) r × Waiting (ready inClock N) (now (flags .exit)) (size N) ⌝ }
+    requires { λ N. opened 𝓤 (now file) (now net) N (Sourced N × (length (now area) ≡ 4096) × Placed inClock N (flagsIn (now area)) (orderIn (now area)) start) }
+    ensures { λ N r. ⌜ Placed inClock N (flagsIn (now (area .exit))) (orderIn (now (area .exit))) r × Waiting (ready inClock N) (flagsIn (now (area .exit))) (size N) ⌝ }
 {
+    let n = node_count(file, net);
     let mut k = start;
-    loop {
-        let more = sweep(file, net, flags, k);
+    while k < n {
+        let more = sweep(file, net, k, area);
         if more == k {
             return k;
         }
         k = more;
     }
+    k
 }
 
-// Puts the nodes into an order, in the circuit, as far as they can be, and gives how many. A hint saves passes.
-pub fn order_nodes(file: &[u8], net: &mut [u16], hint: &[u16]) -> usize
+// Keeps the order in the circuit.
+fn keep_order(file: &[u8], net: &mut [u16], area: &[u16])
+    ghost { Net }
+    requires { λ N. ⌜ netOf (now file) (now net) ≡ N ⌝ ∗ ⌜ Circuit (now file) (now net) ⌝ }
+    ensures { λ N _. ⌜ (netOf (now (file .entry)) (now (net .exit)) ≡ N) × Circuit (now (file .entry)) (now (net .exit))
+        × ((i : ℕ) → i < size N → getD (orderOf (now (net .exit))) i 0 ≡ getD (now (area .entry)) i 0) ⌝ }
+{
+    let n = node_count(file, net);
+    let mut i: usize = 0;
+    while i < n {
+        put_order(file, net, i, number_at(area, i));
+        i = i + 1;
+    }
+}
+
+// Puts the nodes into an order, in the circuit, as far as they can be, and gives how many.
+pub fn order_nodes(file: &[u8], net: &mut [u16]) -> usize
     ghost { Net }
     requires { λ N. opened 𝓤 (now file) (now net) N (Sourced N) }
     ensures { λ N r. ⌜ (netOf (now (file .entry)) (now (net .exit)) ≡ N) × Circuit (now (file .entry)) (now (net .exit))
         × Outcome inClock N (orderOf (now (net .exit))) r ⌝ }
 {
-    let mut flags = [0u8; 1024];
-    let placed = follow(file, net, &mut flags, hint);
-    settle(file, net, &mut flags, placed)
+    let mut area = [0u16; PLACING];
+    let first = sweep(file, net, 0, &mut area);
+    let placed = wake_all(file, net, first, &mut area);
+    let settled = settle(file, net, placed, &mut area);
+    keep_order(file, net, &area);
+    settled
 }

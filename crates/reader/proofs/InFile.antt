@@ -1,5 +1,5 @@
 -- A field's content by its bytes in the file. Assumes nothing.
-use mathlib.Core.Path.{_≡_, refl, sym, ap, ap₂, subst, _∙_}
+use mathlib.Core.Path.{_≡_, refl, sym, ap, ap₂, _∙_}
 use mathlib.Core.Bool.{Bool, true, false}
 use mathlib.Core.List.{List, [], _∷_}
 use Prim.Native.Nat.{ℕ, _+_, _*_, _≤_, _<_}
@@ -8,7 +8,7 @@ use lib.ListN.{length, getD, drop}
 use lib.Seq.{getD-take, getD-drop}
 use lib.Dec.{ltb, eqb}
 use borrow.Author.Tests.{ltb-true, eqb-true, eqb-false}
-use Rattle.lists.specs.Paths.{pick, arms, arms-eq, on-eq, off-eq}
+use Rattle.lists.specs.Paths.{pick, arms-eq, on-eq, off-eq}
 use Rattle.words.specs.Words.{word}
 use Rattle.words.specs.declared.Op.{Op}
 use Rattle.words.specs.declared.Op.the-variants.{Constant, Part}
@@ -171,18 +171,15 @@ module _ (s : List ℕ) (at : ℕ) where
 
     -- ---- the code
 
-    -- where the code's last part stands, from the content's start: a gate's operation, or the kind
-    pub code-place : (g : ℕ) → g ≡ pick (eqb (getD s (at + 3) 0) 5) 1 0 → at + 3 + 2 * g < length s
-    code-place g q =
-        let l = long in
-        let h = p .inside in
-        subst (λ (k : ℕ). at + 3 + 2 * k < length s) (sym q) (arms-eq (λ (k : ℕ). at + 3 + 2 * k < length s) _ _ (getD s (at + 3) 0) 5 (λ e. omega (arith, gate-long e)) (λ _. omega arith))
+    -- a gate's operation stands in the file
+    pub operation-inside : getD s (at + 3) 0 ≡ 5 → at + 5 < length s
+    operation-inside e = omega (arith, gate-long e, p .inside)
 
-    gate-told : getD s (at + 3) 0 ≡ 5 → 8 + getD s (at + 5) 0 ≡ codeOf (nodeIn s at .element)
+    pub gate-told : getD s (at + 3) 0 ≡ 5 → 8 + getD s (at + 5) 0 ≡ codeOf (nodeIn s at .element)
     gate-told g =
         ap (8 +_) (sym (operation-in g) ∙ sym (op-number (content s at) (shape .operation (kind-in ∙ g)))) ∙ ap codeOf (gate-at g (opUnchecked (content s at)) refl)
 
-    kind-told : (getD s (at + 3) 0 ≡ 5 → ⊥) → getD s (at + 3) 0 ≡ codeOf (nodeIn s at .element)
+    pub kind-told : (getD s (at + 3) 0 ≡ 5 → ⊥) → getD s (at + 3) 0 ≡ codeOf (nodeIn s at .element)
     kind-told n = sym kind-in ∙ told (content s at) (λ e. n (sym kind-in ∙ e)) (shape .few) ∙ ap codeOf element-in
       where
         told : (c : List ℕ) → (getD c 0 0 ≡ 5 → ⊥) → getD c 0 0 ≤ 5 → getD c 0 0 ≡ codeOf (elementUnchecked c)
@@ -195,19 +192,6 @@ module _ (s : List ℕ) (at : ℕ) where
 
             P : Element → Type 0
             P x = k ≡ codeOf x
-
-    pub code-in : (g : ℕ) → g ≡ pick (eqb (getD s (at + 3) 0) 5) 1 0 → 8 * g + getD s (at + 3 + 2 * g) 0 ≡ codeOf (nodeIn s at .element)
-    unfolding pick
-    code-in g q = ap (λ (x : ℕ). 8 * x + getD s (at + 3 + 2 * x) 0) q ∙ by (eqb (getD s (at + 3) 0) 5) refl
-      where
-        by : (t : Bool) → eqb (getD s (at + 3) 0) 5 ≡ t → 8 * pick t 1 0 + getD s (at + 3 + 2 * pick t 1 0) 0 ≡ codeOf (nodeIn s at .element)
-        by true e =
-            let j : at + 3 + 2 ≡ at + 5 = omega arith in
-            ap (λ (k : ℕ). 8 + getD s k 0) j ∙ gate-told (eqb-true (getD s (at + 3) 0) 5 e)
-        by false e =
-            let j : 0 + getD s (at + 3 + 0) 0 ≡ getD s (at + 3 + 0) 0 = omega arith in
-            let m : at + 3 + 0 ≡ at + 3 = omega arith in
-            j ∙ ap (λ (k : ℕ). getD s k 0) m ∙ kind-told (eqb-false (getD s (at + 3) 0) 5 e)
 
     -- the bytes that a code tells
     pub kind-by : (k : ℕ) → k < 5 → k ≡ codeOf (nodeIn s at .element) → getD s (at + 3) 0 ≡ k

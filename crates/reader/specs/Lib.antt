@@ -1,2 +1,2 @@
-pub mod Index
+pub mod Head
 pub mod Parts

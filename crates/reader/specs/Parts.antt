@@ -1,11 +1,8 @@
 -- What a code tells of its element. Assumes nothing.
-use mathlib.Core.Path.{_≡_, refl, ap, _∙_}
-use mathlib.Core.Bool.{Bool, true, false}
-use Prim.Native.Nat.{ℕ, _+_, _-_, _*_, _/_, _≤_, _<_}
+use mathlib.Core.Path.{_≡_, refl}
+use Prim.Native.Nat.{ℕ, _-_, _≤_, _<_}
 use native.Mathlib.Omega.{arith}
 use lib.ListN.{getD}
-use lib.Dec.{ltb, eqb}
-use Rattle.lists.specs.Paths.{pick, arms-lt, arms-eq}
 use Rattle.words.specs.Words.{operandCounts}
 use Rattle.words.specs.declared.Op.the-variants.{Constant, Not, And, Or, Xor, Add, Subtract, Equal, Less, Choose, Part, Join}
 use Rattle.netlist.specs.Net.{operands}
@@ -14,51 +11,42 @@ use Rattle.netlist.specs.declared.Element.{Element}
 use Rattle.netlist.specs.declared.Element.the-variants.{Input, Output, Register, Async, Clocked, Gate}
 use Rattle.circuit.specs.Code.{codeOf, numberOr, tableOr}
 
--- a gate's operation, else 0; and the source of what is neither a gate nor an input port
-abbrev pub opOf : ℕ → ℕ
-opOf c = pick (ltb c 8) 0 (c - 8)
+-- how many sources there are: a gate has what the array says of its operation
+pub gate-count : (e : Element) → 7 < codeOf e → getD operandCounts (codeOf e - 8) 0 ≡ operands e
+gate-count Input h = absurd (omega arith)
+gate-count Output h = absurd (omega arith)
+gate-count (Register r) h = absurd (omega arith)
+gate-count (Async m) h = absurd (omega arith)
+gate-count (Clocked m r) h = absurd (omega arith)
+gate-count (Gate (Constant v)) h = refl
+gate-count (Gate Not) h = refl
+gate-count (Gate And) h = refl
+gate-count (Gate Or) h = refl
+gate-count (Gate Xor) h = refl
+gate-count (Gate Add) h = refl
+gate-count (Gate Subtract) h = refl
+gate-count (Gate Equal) h = refl
+gate-count (Gate Less) h = refl
+gate-count (Gate Choose) h = refl
+gate-count (Gate (Part b)) h = refl
+gate-count (Gate Join) h = refl
 
-abbrev pub loneOf : ℕ → ℕ
-loneOf c = pick (eqb c 0) 0 (pick (ltb c 5) 1 0)
+-- an input port has none, and what is neither has one
+pub no-source : (e : Element) → codeOf e ≡ 0 → 0 ≡ operands e
+no-source Input h = refl
+no-source Output h = absurd (omega arith)
+no-source (Register r) h = absurd (omega arith)
+no-source (Async m) h = absurd (omega arith)
+no-source (Clocked m r) h = absurd (omega arith)
+no-source (Gate o) h = absurd (omega arith)
 
--- by arithmetic
-pub gate-bit : (k : ℕ) → k ≤ 5 → (k + 3) / 8 ≡ pick (eqb k 5) 1 0
-gate-bit k h = arms-eq (λ (z : ℕ). (k + 3) / 8 ≡ z) 1 0 k 5 (λ e. omega arith) (λ d. omega arith)
-
-op-bit : (c g : ℕ) → g ≡ pick (ltb c 8) 0 1 → (c - 8 * g) * g ≡ opOf c
-unfolding pick
-op-bit c g q = ap (λ (x : ℕ). (c - 8 * x) * x) q ∙ by (ltb c 8)
-  where
-    by : (t : Bool) → (c - 8 * pick t 0 1) * pick t 0 1 ≡ pick t 0 (c - 8)
-    by true = omega arith
-    by false = omega arith
-
-pub op-plain : (c : ℕ) → c < 20 → (c - 8 * ((c + 24) / 32)) * ((c + 24) / 32) ≡ opOf c
-op-plain c h = op-bit c _ (arms-lt (λ (z : ℕ). (c + 24) / 32 ≡ z) 0 1 c 8 (λ l. omega arith) (λ l. omega arith))
-
-pub op-few : (c : ℕ) → c < 20 → opOf c < 12
-op-few c h = arms-lt (λ (z : ℕ). z < 12) 0 (c - 8) c 8 (λ l. omega arith) (λ l. omega arith)
-
--- together they give the count of sources
-pub counted : (e : Element) → getD operandCounts (opOf (codeOf e)) 0 + loneOf (codeOf e) ≡ operands e
-unfolding pick
-counted Input = refl
-counted Output = refl
-counted (Register r) = refl
-counted (Async m) = refl
-counted (Clocked m r) = refl
-counted (Gate (Constant v)) = refl
-counted (Gate Not) = refl
-counted (Gate And) = refl
-counted (Gate Or) = refl
-counted (Gate Xor) = refl
-counted (Gate Add) = refl
-counted (Gate Subtract) = refl
-counted (Gate Equal) = refl
-counted (Gate Less) = refl
-counted (Gate Choose) = refl
-counted (Gate (Part b)) = refl
-counted (Gate Join) = refl
+pub lone-source : (e : Element) → codeOf e ≤ 7 → (codeOf e ≡ 0 → ⊥) → 1 ≡ operands e
+lone-source Input h d = absurd (d refl)
+lone-source Output h d = refl
+lone-source (Register r) h d = refl
+lone-source (Async m) h d = refl
+lone-source (Clocked m r) h d = refl
+lone-source (Gate o) h d = absurd (omega arith)
 
 -- where the first source stands
 pub code-first : (e : Element) → codeOf e < 5 → 2 ≡ firstSource e

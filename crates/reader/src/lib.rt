@@ -1,7 +1,6 @@
-// Reads the fields of a file, checks 1 to 5, and keeps an index of them: the offsets of the table fields and of the node fields.
+// Reads the fields of a file one by one: checks 1 to 5.
 pub mod parts;
 
-use netlist::Scanned;
 use netlist::Step;
 use nodes::good::content_good;
 use words::fits_width;
@@ -14,10 +13,10 @@ ghost use Rattle.lists.specs.Lists.{largest};
 ghost use Rattle.words.specs.Words.{word};
 ghost use Rattle.netlist.specs.Field.{fieldEnd, content};
 ghost use Rattle.netlist.specs.TableField.{tableGood};
-ghost use Rattle.netlist.specs.Scan.{tableStep, nodeStep, endStep, stepAt, scan};
+ghost use Rattle.netlist.specs.Scan.{tableStep, nodeStep, endStep, stepAt};
 ghost use Rattle.netlist.specs.ScanLaws.{TableAt, NodeAt};
 ghost use Rattle.netlist.specs.File.{nodeIn};
-ghost use Rattle.reader.specs.Index.{scannedOf, Indexed, Headed};
+ghost use Rattle.reader.specs.Head.{Headed};
 
 fn larger(a: u16, b: u16) -> u16
     ensures { λ r. ⌜ r ≡ max a b ⌝ }
@@ -134,7 +133,7 @@ fn end_step(file: &[u8], at: usize) -> Step
 }
 
 // What stands at an offset, after t tables and n nodes.
-fn step_at(file: &[u8], at: usize, t: usize, n: usize) -> Step
+pub fn step_at(file: &[u8], at: usize, t: usize, n: usize) -> Step
     requires { ⌜ (length (now file) ≤ 46000) × (at ≤ length (now file)) ⌝ }
     ensures { λ r. ⌜ r ≡ stepAt (now (file .entry)) at t n ⌝ }
 {
@@ -155,7 +154,7 @@ fn step_at(file: &[u8], at: usize, t: usize, n: usize) -> Step
 }
 
 // 0 where the file begins with a head; else the refusal's number, whose place is 0.
-fn head_refusal(file: &[u8]) -> u8
+pub fn head_refusal(file: &[u8]) -> u8
     ensures { λ r. ⌜ Headed (now (file .entry)) r ⌝ }
 {
     if file.len() < 3 {
@@ -175,39 +174,6 @@ fn head_refusal(file: &[u8]) -> u8
         return 3;
     }
     0
-}
-
-// Finds the fields of a file and fills the index with their offsets. What the index holds after a refusal is not said.
-pub fn scan_fields(file: &[u8], tables: &mut [u16], nodes: &mut [u16]) -> Scanned
-    requires { ⌜ (16 ≤ length (now tables)) × (1024 ≤ length (now nodes)) ⌝ }
-    ensures { λ r. ⌜ (r ≡ scannedOf (scan (now (file .entry)))) × Indexed (scan (now (file .entry))) (now (tables .exit)) (now (nodes .exit)) ⌝ }
-{
-    if 46000 < file.len() {
-        return Scanned::Refuse(1, 0);
-    }
-    let head = head_refusal(file);
-    if head != 0 {
-        return Scanned::Refuse(head, 0);
-    }
-    let mut at: usize = 4;
-    let mut t: usize = 0;
-    let mut n: usize = 0;
-    loop {
-        match step_at(file, at, t, n) {
-            Step::Refuse(number, place) => return Scanned::Refuse(number, place),
-            Step::EndField => return Scanned::Fields(t, n),
-            Step::TableField(next) => {
-                tables[t] = at as u16;
-                t = t + 1;
-                at = next;
-            }
-            Step::NodeField(next) => {
-                nodes[n] = at as u16;
-                n = n + 1;
-                at = next;
-            }
-        }
-    }
 }
 
 // The width of the node whose field stands at an offset. The field passed check 5, so its bytes are read without tests.

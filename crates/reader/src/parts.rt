@@ -1,4 +1,4 @@
-// A node's parts, read with one branch on its code at most: kinds follow no pattern, and such branches would be predicted wrong.
+// A node's parts, by its code.
 use nodes::Sources;
 use nodes::good::wide8;
 use nodes::sources_from;
@@ -6,60 +6,36 @@ use words::operand_count;
 use words::word_at;
 ghost use mathlib.Core.Path.{_≡_};
 ghost use Prim.Native.Nat.{_<_, _≤_};
-ghost use lib.Dec.{eqb};
-ghost use Rattle.lists.specs.Paths.{pick};
 ghost use Rattle.netlist.specs.declared.Element.{Element};
 ghost use Rattle.netlist.specs.Net.{operands};
 ghost use Rattle.netlist.specs.NodeField.{firstSource};
 ghost use Rattle.netlist.specs.ScanLaws.{NodeAt};
 ghost use Rattle.netlist.specs.File.{nodeIn};
 ghost use Rattle.circuit.specs.Code.{codeOf};
-ghost use Rattle.reader.specs.Parts.{opOf, loneOf, Holds};
-
-// 1 for a gate. By arithmetic, as all that hangs on it: a test may become a branch.
-fn gate_bit(kind: u8) -> usize
-    requires { ⌜ kind ≤ 5 ⌝ }
-    ensures { λ r. ⌜ (r ≡ pick (eqb kind 5) 1 0) × (r ≤ 1) ⌝ }
-{
-    (wide8(kind) + 3) / 8
-}
+ghost use Rattle.reader.specs.Parts.{Holds};
 
 // The code of the node whose field stands at an offset: its kind, and of a gate 8 more than its operation.
 pub fn code_at(file: &[u8], at: usize) -> usize
     requires { ⌜ NodeAt (now file) at ⌝ }
     ensures { λ r. ⌜ (r ≡ codeOf (nodeIn (now (file .entry)) at .element)) × (r < 20) ⌝ }
 {
-    let gate = gate_bit(file[at + 3]);
-    let place = at + 3 + 2 * gate;
-    8 * gate + wide8(file[place])
-}
-
-// The operation of a code: of what is no gate a constant's, which has no source.
-fn op_by_code(code: usize) -> usize
-    requires { ⌜ code < 20 ⌝ }
-    ensures { λ r. ⌜ (r ≡ opOf code) × (r < 12) ⌝ }
-{
-    let gate = (code + 24) / 32;
-    (code - 8 * gate) * gate
-}
-
-// The one source of what is neither a gate nor an input port.
-fn lone_by_code(code: usize) -> usize
-    ensures { λ r. ⌜ (r ≡ loneOf code) × (r ≤ 1) ⌝ }
-{
-    if code == 0 {
-        0
+    let kind = file[at + 3];
+    if kind == 5 {
+        8 + wide8(file[at + 5])
     } else {
-        if code < 5 { 1 } else { 0 }
+        wide8(kind)
     }
 }
 
-// How many sources it has.
+// How many sources it has: a gate as many as the array says of its operation; what is neither a gate nor an input port has one.
 pub fn count_by_code(code: usize) -> usize
     requires { ⌜ code < 20 ⌝ }
-    ensures { λ r. ⌜ ((e : Element) → code ≡ codeOf e → r ≡ operands e) × (r ≤ 4) ⌝ }
+    ensures { λ r. ⌜ ((e : Element) → code ≡ codeOf e → r ≡ operands e) × (r ≤ 3) ⌝ }
 {
-    operand_count(op_by_code(code)) + lone_by_code(code)
+    if 7 < code {
+        return operand_count(code - 8);
+    }
+    if code == 0 { 0 } else { 1 }
 }
 
 fn first_by_code(code: usize) -> usize

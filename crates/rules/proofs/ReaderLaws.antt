@@ -3,11 +3,11 @@ use mathlib.Core.Path.{_≡_, refl, sym, ap, subst, _∙_}
 use mathlib.Core.Logic.{⊎-elim}
 use mathlib.Core.Bool.{Bool, true, false, not, cond, _||_, _&&_}
 use mathlib.Core.List.{List}
-use Prim.Native.Nat.{ℕ, suc, _+_, _*_, _≤_, _<_}
+use Prim.Native.Nat.{ℕ, suc, _+_, _≤_, _<_}
 use native.Mathlib.Nat.{not-suc-le-zero}
 use native.Mathlib.Omega.{arith}
 use native.Mathlib.Numerals.{add-one}
-use lib.ListN.{length, getD, set, replicate, length-set, length-replicate, getD-replicate}
+use lib.ListN.{length, getD, set, length-set}
 use lib.Seq.{getD-set-same, getD-set-other}
 use lib.Dec.{eqb, ltb}
 use borrow.Author.Tests.{lt-ltb}
@@ -105,10 +105,6 @@ port-code (Clocked m r) = refl
 port-code (Gate o) = lt-ltb 1 (8 + opNumber o) (omega arith)
 
 module _ (N : Net) where
-  pub no-marks : (k : ℕ) → size N ≤ k → Marks N (replicate k 0) 0
-  no-marks k h = record { room = simp length-replicate h; each = λ u l. getD-replicate k u 0 0 (omega arith) }
-
-  -- one reader more
   pub marks-more : {before after : List ℕ} {x n : ℕ} → n ≡ operands (elementAt N x) → Marks N before x → Marked (source N x) n before after → Marks N after (x + 1)
   unfolding readsTest
   marks-more {before} {after} {x} {n} k m w = record {

@@ -1,4 +1,5 @@
 // Check 6: no such node or table, or an output port as source.
+use super::readers::mark_sources;
 use circuit::code_of;
 use circuit::node_count;
 use circuit::source_count;
@@ -13,6 +14,7 @@ ghost use Rattle.netlist.specs.Net.{Net, size, elementAt, source};
 ghost use Rattle.netlist.specs.Verdict.{tableThere, noSource, badSource};
 ghost use Rattle.circuit.specs.Circuit.{netOf, Circuit};
 ghost use Rattle.circuit.specs.Opened.{opened};
+ghost use Rattle.rules.specs.Marks.{Marks};
 ghost use Rattle.rules.specs.OrFirst.{OrFirst};
 
 // Whether the table of node v is missing. Only a ROM has one, and the code tells the ROMs.
@@ -86,11 +88,11 @@ fn bad_source(file: &[u8], net: &[u16], v: usize) -> bool
     any_no_source(file, net, v, source_count(file, net, v))
 }
 
-// The lowest node that check 6 refuses, or the number of nodes.
-pub fn lowest_bad_source(file: &[u8], net: &[u16]) -> usize
+// The lowest node that check 6 refuses, or the number of nodes: then all that is read is marked, for check 8.
+pub fn lowest_bad_source(file: &[u8], net: &[u16], marks: &mut [u8]) -> usize
     ghost { Net }
-    requires { λ N. ⌜ netOf (now file) (now net) ≡ N ⌝ ∗ ⌜ Circuit (now file) (now net) ⌝ }
-    ensures { λ N r. ⌜ r ≡ lowest (size N) (badSource N) ⌝ }
+    requires { λ N. opened 𝓤 (now file) (now net) N (Marks N (now marks) 0) }
+    ensures { λ N r. ⌜ (r ≡ lowest (size N) (badSource N)) × (size N ≤ r → Marks N (now (marks .exit)) (size N)) ⌝ }
 {
     let n = node_count(file, net);
     let mut v: usize = 0;
@@ -98,6 +100,7 @@ pub fn lowest_bad_source(file: &[u8], net: &[u16]) -> usize
         if bad_source(file, net, v) {
             return v;
         }
+        mark_sources(file, net, v, source_count(file, net, v), marks);
         v = v + 1;
     }
     v

@@ -8,49 +8,40 @@ use circuit::table_of;
 use circuit::width_of;
 use circuit::word_width;
 ghost use mathlib.Core.Path.{_≡_};
-ghost use mathlib.Core.Bool.{true, cond};
-ghost use lib.Dec.{eqb};
-ghost use Prim.Native.Nat.{ℕ, _/_, _%_, _^_, _<_, _≤_};
+ghost use mathlib.Core.Bool.{true, _&&_};
+ghost use Prim.Native.Nat.{ℕ, _<_, _≤_};
 ghost use Rattle.lists.specs.Lists.{lowest};
-ghost use Rattle.netlist.specs.Net.{Net, size, elementAt, widthAt, isMemory};
+ghost use Rattle.netlist.specs.Net.{Net, size, elementAt, widthAt, source, isMemory};
 ghost use Rattle.netlist.specs.Verdict.{widthsRight, badWidth};
-ghost use Rattle.circuit.specs.Code.{codeOf};
+ghost use Rattle.circuit.specs.Code.{codeOf, Coded};
 ghost use Rattle.circuit.specs.Circuit.{netOf, Circuit};
 ghost use Rattle.circuit.specs.Opened.{opened};
-ghost use Rattle.rules.specs.Three.{three};
 ghost use Rattle.rules.specs.Sides.{sides};
 
-// The codes whose first source's width counts, and whose second's; those that compare, and the one that chooses: a bit for each.
-const FIRST_COUNTS: u64 = 261638;
-
-const SECOND_COUNTS: u64 = 162816;
-
-const COMPARING: u64 = 98304;
-
-const CHOOSING: u64 = 131072;
-
-// One width where a code's bit is set, another where it is not.
-fn pick(bits: u64, code: usize, x: u8, y: u8) -> u8
-    requires { ⌜ code < 20 ⌝ }
-    ensures { λ r. ⌜ r ≡ cond (eqb (bits / 2 ^ code % 2) 1) x y ⌝ }
+fn both(x: bool, y: bool) -> bool
+    ensures { λ r. ⌜ r ≡ (x && y) ⌝ }
 {
-    if (bits >> code) % 2 == 1 { x } else { y }
+    if x { y } else { false }
 }
 
-// The width rule of a code as three equalities. Codes follow no pattern, so there is no branch on them: what does not count is the node's own width.
-fn same_widths(code: usize, w: u8, a: u8, b: u8, c: u8) -> bool
-    requires { ⌜ code < 20 ⌝ }
-    ensures { λ r. ⌜ r ≡ sides code w a b c ⌝ }
+// The width rule of a code with one source at most, no ROM's.
+fn lone_widths(code: usize, w: u8, a: u8) -> bool
+    requires { ⌜ Coded code × (code ≤ 9) × (code ≡ 3 → ⊥) × (code ≡ 4 → ⊥) ⌝ }
+    ensures { λ r. ⌜ ((b c : ℕ) → r ≡ sides code w a b c) ⌝ }
 {
-    let first = pick(FIRST_COUNTS, code, a, w);
-    let wanted = pick(CHOOSING, code, 1, pick(COMPARING, code, b, w));
-    let second = pick(SECOND_COUNTS, code, b, w);
-    let own = pick(COMPARING, code, 1, w);
-    let third = pick(CHOOSING, code, c, w);
-    if first == wanted {
-        if second == own { third == w } else { false }
+    // An input port and a constant have none.
+    if code % 8 == 0 { true } else { a == w }
+}
+
+// The width rule of a code with two sources, no join's. Two of them compare.
+fn two_widths(code: usize, w: u8, a: u8, b: u8) -> bool
+    requires { ⌜ (9 < code) × (code ≤ 16) ⌝ }
+    ensures { λ r. ⌜ ((c : ℕ) → r ≡ sides code w a b c) ⌝ }
+{
+    if 14 < code {
+        both(a == b, w == 1)
     } else {
-        false
+        both(a == w, b == w)
     }
 }
 
@@ -90,20 +81,44 @@ fn width_at(file: &[u8], net: &[u16], u: usize) -> u8
     }
 }
 
+// The width rule of node v, a gate of width w with two sources or three, the first of width a.
+fn gate_widths(file: &[u8], net: &[u16], v: usize, code: usize, w: u8, a: u8) -> bool
+    ghost { Net }
+    requires { λ N. opened 𝓤 (now file) (now net) N ((v < size N) × (code ≡ codeOf (elementAt N v)) × (9 < code) × (code ≡ 18 → ⊥) × (a ≡ widthAt N (source N v 0))) }
+    ensures { λ N r. ⌜ r ≡ widthsRight (N .tables) (elementAt N v) w (λ p. widthAt N (source N v p)) ⌝ }
+{
+    let b = width_at(file, net, source_of(file, net, v, 1));
+    if code < 17 {
+        return two_widths(code, w, a, b);
+    }
+    if code == 17 {
+        let c = width_at(file, net, source_of(file, net, v, 2));
+        return both(a == 1, both(b == w, c == w));
+    }
+    // A join.
+    (a as u32) + (b as u32) == (w as u32)
+}
+
 // The width rule of node v by its code.
-fn width_rule(file: &[u8], net: &[u16], v: usize, w: u8, a: u8, b: u8, c: u8) -> bool
+fn width_rule(file: &[u8], net: &[u16], v: usize) -> bool
     ghost { Net }
     requires { λ N. opened 𝓤 (now file) (now net) N (v < size N) }
-    ensures { λ N r. ⌜ r ≡ widthsRight (N .tables) (elementAt N v) w (three a b c) ⌝ }
+    ensures { λ N r. ⌜ r ≡ widthsRight (N .tables) (elementAt N v) (widthAt N v) (λ p. widthAt N (source N v p)) ⌝ }
 {
     let code = code_of(file, net, v);
+    let w = width_of(file, net, v) as u8;
+    let a = width_at(file, net, source_of(file, net, v, 0));
     match code {
         3 => memory_widths(file, net, v, w, a),
         4 => memory_widths(file, net, v, w, a),
         18 => part_widths(file, net, v, w, a),
-        // A join.
-        19 => (a as u32) + (b as u32) == (w as u32),
-        _ => same_widths(code, w, a, b, c),
+        _ => {
+            if code < 10 {
+                lone_widths(code, w, a)
+            } else {
+                gate_widths(file, net, v, code, w, a)
+            }
+        }
     }
 }
 
@@ -112,11 +127,7 @@ fn bad_width(file: &[u8], net: &[u16], v: usize) -> bool
     requires { λ N. opened 𝓤 (now file) (now net) N (v < size N) }
     ensures { λ N r. ⌜ r ≡ badWidth N v ⌝ }
 {
-    let a = width_at(file, net, source_of(file, net, v, 0));
-    let b = width_at(file, net, source_of(file, net, v, 1));
-    let c = width_at(file, net, source_of(file, net, v, 2));
-    let w = width_at(file, net, v);
-    if width_rule(file, net, v, w, a, b, c) {
+    if width_rule(file, net, v) {
         false
     } else {
         true

@@ -1,6 +1,7 @@
 // The reset service and the run of one clock, on the bytes that a host lends. Nothing is written before every check is passed.
 use areas::number_at;
 use checks::open_file;
+use circuit::WORDS;
 use circuit::number_of;
 use circuit::wide;
 use evaluate::Row;
@@ -149,7 +150,7 @@ pub fn reset_state(file: &[u8], state: &mut [u8]) -> Answer
     ensures { λ r. ⌜ (r ≡ resetFile (now (file .entry)) (now (state .entry)) .answer)
         × (now (state .exit) ≡ resetFile (now (file .entry)) (now (state .entry)) .state) ⌝ }
 {
-    let mut net = [0u16; 10304];
+    let mut net = [0u16; WORDS];
     match open_file(file, &mut net) {
         Verdict::Refuses(number, place) => Answer::Refused(number, place),
         Verdict::Fine => reset_opened(file, &net, state),
@@ -162,7 +163,7 @@ pub fn run_clock(file: &[u8], state: &mut [u8], inputs: &[u8], outputs: &mut [u8
         × (now (state .exit) ≡ runFile (now (file .entry)) (now (state .entry)) (now (inputs .entry)) (now (outputs .entry)) .state)
         × (now (outputs .exit) ≡ runFile (now (file .entry)) (now (state .entry)) (now (inputs .entry)) (now (outputs .entry)) .outputs) ⌝ }
 {
-    let mut net = [0u16; 10304];
+    let mut net = [0u16; WORDS];
     match open_file(file, &mut net) {
         Verdict::Refuses(number, place) => Answer::Refused(number, place),
         Verdict::Fine => run_opened(file, &net, state, inputs, outputs),

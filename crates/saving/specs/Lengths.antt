@@ -1,11 +1,11 @@
 -- How long the field of a node is, by its code and how many sources it has. Assumes nothing.
 use mathlib.Core.Path.{_≡_, refl, ap}
 use mathlib.Core.List.{List}
-use Prim.Native.Nat.{ℕ, _+_, _-_, _*_, _/_, _<_, _≤_}
+use Prim.Native.Nat.{ℕ, _+_, _*_, _<_, _≤_}
 use native.Mathlib.Omega.{arith}
 use lib.ListN.{length}
-use lib.Dec.{eqb}
-use Rattle.lists.specs.Lists.{one}
+use lib.Dec.{eqb, ltb}
+use Rattle.lists.specs.Paths.{pick}
 use Rattle.words.specs.declared.Op.{Op}
 use Rattle.words.specs.declared.Op.the-variants.{Constant, Not, And, Or, Xor, Add, Subtract, Equal, Less, Choose, Part, Join}
 use Rattle.netlist.specs.declared.Node.{Node}
@@ -20,9 +20,16 @@ use Rattle.circuit.specs.CircuitLaws.{node-of}
 
 -- what a node holds besides kind, width and sources: a reset word, a table, both, an operation with a word or a lowest bit
 abbrev pub ownLength : ℕ → ℕ
-ownLength c = 2 * one (eqb c 2) + one (eqb c 3) + 3 * one (eqb c 4) + (1 - one (eqb (c / 8) 0)) + 2 * one (eqb c 8) + one (eqb c 18)
+ownLength c =
+    pick (eqb c 2) 2
+    (pick (eqb c 3) 1
+    (pick (eqb c 4) 3
+    (pick (eqb c 8) 3
+    (pick (eqb c 18) 2
+    (pick (ltb c 2) 0 1)))))
 
 by-op : (o : Op) → contentLength (Gate o) ≡ 2 + ownLength (codeOf (Gate o)) + 2 * operands (Gate o)
+unfolding pick
 by-op (Constant v) = refl
 by-op Not = refl
 by-op And = refl
@@ -37,6 +44,7 @@ by-op (Part b) = refl
 by-op Join = refl
 
 by-element : (e : Element) → contentLength e ≡ 2 + ownLength (codeOf e) + 2 * operands e
+unfolding pick
 by-element Input = refl
 by-element Output = refl
 by-element (Register r) = refl

@@ -1,6 +1,5 @@
 // The file of a circuit: how long it is, and its writing. The head, the tables, the nodes, the end.
 use circuit::code_of;
-use circuit::is_kind;
 use circuit::node_count;
 use circuit::source_count;
 use circuit::table_count;
@@ -39,13 +38,20 @@ fn tables_length(file: &[u8], net: &[u16]) -> usize
     sum
 }
 
-// How long the field of a node is but for its sources, by its code: kinds follow no pattern, so there is no branch on them.
+// What a node holds beside kind, width and sources, by its code: a register its reset word, a ROM its table, a clocked one both;
+// a gate its operation, with it a constant (8) its word and a part (18) its lowest bit.
 fn own_length(code: usize) -> usize
-    ensures { λ r. ⌜ (r ≡ 5 + ownLength code) × (r ≤ 15) ⌝ }
+    ensures { λ r. ⌜ (r ≡ ownLength code) × (r ≤ 3) ⌝ }
 {
-    let held = 2 * is_kind(code, 2) + is_kind(code, 3) + 3 * is_kind(code, 4);
-    let gate = 1 - is_kind(code / 8, 0);
-    5 + held + gate + 2 * is_kind(code, 8) + is_kind(code, 18)
+    match code {
+        0 | 1 => 0,
+        2 => 2,
+        3 => 1,
+        4 => 3,
+        8 => 3,
+        18 => 2,
+        _ => 1,
+    }
 }
 
 // How long the field of node v is.
@@ -54,7 +60,7 @@ fn node_length(file: &[u8], net: &[u16], v: usize) -> usize
     requires { λ N. opened 𝓤 (now file) (now net) N (v < size N) }
     ensures { λ N r. ⌜ (r ≡ length (nodeBytes (nodeAt N v))) × (r ≤ 12) ⌝ }
 {
-    own_length(code_of(file, net, v)) + 2 * source_count(file, net, v)
+    5 + own_length(code_of(file, net, v)) + 2 * source_count(file, net, v)
 }
 
 // How many bytes the fields of the nodes take.

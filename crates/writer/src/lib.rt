@@ -2,6 +2,7 @@
 // `Puts before at bytes next after` says both, and that no other byte of the output differs.
 use netlist::Element;
 use netlist::Node;
+use nodes::good::gate_length;
 use nodes::op_index;
 use nodes::source_count;
 use words::Op;
@@ -15,7 +16,7 @@ ghost use Rattle.netlist.specs.Field.{field};
 ghost use Rattle.netlist.specs.NodeField.{kindOf, opNumber, opExtra, beforeSources, afterSources, sourceBytes, nodeContent};
 ghost use Rattle.netlist.specs.ScanLaws.{TableAt};
 ghost use Rattle.netlist.specs.File.{tableIn, tableBytes, nodeBytes};
-ghost use Rattle.codec.specs.ContentLength.{opLength, contentLength};
+ghost use Rattle.codec.specs.ContentLength.{contentLength};
 ghost use Rattle.writer.specs.Written.{Puts};
 
 // One byte.
@@ -116,26 +117,6 @@ fn op_number(op: Op) -> u8
     op_index(op) as u8
 }
 
-// The length of a gate's content.
-fn gate_length(op: Op) -> u16
-    ensures { λ r. ⌜ r ≡ opLength op ⌝ }
-{
-    match op {
-        Op::Constant(_) => 5,
-        Op::Not => 5,
-        Op::And => 7,
-        Op::Or => 7,
-        Op::Xor => 7,
-        Op::Add => 7,
-        Op::Subtract => 7,
-        Op::Equal => 7,
-        Op::Less => 7,
-        Op::Choose => 9,
-        Op::Part(_) => 6,
-        Op::Join => 7,
-    }
-}
-
 // The length of a node's content.
 pub fn content_length(e: Element) -> u16
     ensures { λ r. ⌜ r ≡ contentLength e ⌝ }
@@ -146,7 +127,7 @@ pub fn content_length(e: Element) -> u16
         Element::Register(_) => 6,
         Element::Async(_) => 5,
         Element::Clocked(_, _) => 7,
-        Element::Gate(op) => gate_length(op),
+        Element::Gate(op) => gate_length(op_index(op)) as u16,
     }
 }
 

@@ -1,7 +1,6 @@
 -- By the test.
 use mathlib.Core.Path.{sym, ap}
 use native.Mathlib.Omega.{arith}
-use borrow.Author.Needs.{needs}
 use borrow.Author.Tests.{eq-eqb, ne-eqb}
 use Rattle.lists.specs.Lists.{one}
 use Rattle.circuit.proofs.is_kind.Statement.{statement}

@@ -9,32 +9,18 @@ node-count-requires c κs = search needs
 
 place-requires : tie.Need-place-requires
 place-requires c κs =
-    let p = c .before .before .before .before .before .before .before .before .pre in
-    (p .0, (p .1 .0, omega (arith, c .before .before .if1 .taken, c .before .before .before .node-count .ensures .0), p .1 .1))
+    let p = c .before .before .before .before .before .before .pre in
+    (p .0, (p .1 .0, omega (arith, c .before .if1 .taken, c .before .before .node-count .ensures .0), p .1 .1, p .1 .2))
 
 same-length : tie.Need-same-length
 same-length c = search needs
 
-same-length-2 : tie.Need-same-length-2
-same-length-2 c = search needs
-
 returns : tie.Need-returns
 returns c = search needs
-
-same-length-3 : tie.Need-same-length-3
-same-length-3 c = search needs
 
 returns-2 : tie.Need-returns-2
 returns-2 c = search needs
 
 pub place-if-spec : {M : Type 1} → statement M
 place-if-spec =
-    tie.close
-    (tie.spec
-    node-count-requires
-    place-requires
-    same-length
-    same-length-2
-    returns
-    same-length-3
-    returns-2)
+    tie.close (tie.spec node-count-requires place-requires same-length returns returns-2)

@@ -1,16 +1,17 @@
--- The loop's invariant: the ranks and the list keep their number.
-use mathlib.Core.Path.{_≡_}
+-- The loop's invariant: the ranks keep their number.
+use mathlib.Core.Path.{_≡_, ap, _∙_}
 use Prim.Native.Nat.{_-_}
 use lib.ListN.{length}
+use mathlib.Core.Logic.{⊎-elim}
 use borrow.Author.Needs.{needs}
 use Rattle.cycles.proofs.rings.rank_registers.Statement.{statement}
 use Rattle.cycles.proofs.rings.rank_registers.Tie as tie
 
 abbrev Inv-loop : tie.InvT-loop
-Inv-loop file net ranks₀ n list₀ from₀ ranks list from = (length ranks ≡ length ranks₀) × (length list ≡ 64)
+Inv-loop file net ranks₀ n v₀ ranks v = length ranks ≡ length ranks₀
 
 abbrev μ-loop : tie.MeasureT-loop
-μ-loop file net ranks₀ n list₀ from₀ ranks list from = n - from
+μ-loop file net ranks₀ n v₀ ranks v = n - v
 
 node-count-requires : tie.Need-node-count-requires Inv-loop μ-loop
 node-count-requires c κs = search needs
@@ -18,26 +19,22 @@ node-count-requires c κs = search needs
 loop-holds : tie.Need-loop-holds Inv-loop μ-loop
 loop-holds c = search needs
 
-slice-aggregate-list-chained : tie.Need-slice-aggregate-list-chained Inv-loop μ-loop
-slice-aggregate-list-chained c = search needs
+register-requires : tie.Need-register-requires Inv-loop μ-loop
+register-requires c κs = search needs
 
-list-chained-requires : tie.Need-list-chained-requires Inv-loop μ-loop
-list-chained-requires c κs = search needs
+rank-register-requires : tie.Need-rank-register-requires Inv-loop μ-loop
+rank-register-requires c κs = search needs
 
-slice-aggregate-rank-listed : tie.Need-slice-aggregate-rank-listed Inv-loop μ-loop
-slice-aggregate-rank-listed c = search needs
-
-rank-listed-requires : tie.Need-rank-listed-requires Inv-loop μ-loop
-rank-listed-requires c κs = search needs
-
-add-from : tie.Need-add-from Inv-loop μ-loop
-add-from c = search needs
+add-v : tie.Need-add-v Inv-loop μ-loop
+add-v c = search needs
 
 loop-less : tie.Need-loop-less Inv-loop μ-loop
 loop-less c = search needs
 
 loop-again : tie.Need-loop-again Inv-loop μ-loop
-loop-again c = search needs
+loop-again c =
+    let k = c .before .before .before .loop .inv in
+    ⊎-elim (λ w. ap length (w .5) ∙ w .2 .kept .1 .1 .1 .0 ∙ k) (λ w. ap length (w .1) ∙ k) (c .if1 .came)
 
 same-length : tie.Need-same-length Inv-loop μ-loop
 same-length c = search needs
@@ -53,11 +50,9 @@ rank-registers-spec =
     μ-loop
     node-count-requires
     loop-holds
-    slice-aggregate-list-chained
-    list-chained-requires
-    slice-aggregate-rank-listed
-    rank-listed-requires
-    add-from
+    register-requires
+    rank-register-requires
+    add-v
     loop-less
     loop-again
     same-length
