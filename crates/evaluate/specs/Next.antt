@@ -1,18 +1,24 @@
 -- The word that a node holds after the clock, and its word after reset. Assumes nothing.
-use mathlib.Core.Path.{_≡_, refl, ap}
+use mathlib.Core.Path.{_≡_, refl, sym, ap}
 use mathlib.Core.Bool.{true, false≢true}
 use mathlib.Core.List.{List}
 use Prim.Native.Nat.{ℕ, _^_, _<_}
 use lib.ListN.{getD}
 use lib.Dec.{lit<}
+use Rattle.lists.specs.Lists.{select}
 use Rattle.netlist.specs.declared.Element.{Element}
 use Rattle.netlist.specs.declared.Element.the-variants.{Input, Output, Register, Async, Clocked, Gate}
 use Rattle.netlist.specs.Net.{Net, size, elementAt, widthAt, source, operands, holdsWord, contentsAt}
 use Rattle.circuit.specs.Code.{numberOr}
-use Rattle.behaviour.specs.Run.{holds-next, holds-first}
+use Rattle.behaviour.specs.Run.{holds-next, holds-first, contents-now, nextState}
 
 abbrev pub nextWord : Net → List ℕ → ℕ → ℕ
 nextWord N ws v = holds-next (contentsAt N v) (elementAt N v) (λ p. getD ws (source N v p) 0)
+
+-- those of all that hold one are the next state, whatever the state was: contents stay
+pub next-state : (N : Net) (state ws : List ℕ) → select (λ v. holdsWord (elementAt N v)) (nextWord N ws) (size N) ≡ nextState N state ws
+unfolding nextState
+next-state N state ws i = select (λ v. holdsWord (elementAt N v)) (λ v. holds-next (sym (contents-now N state v) i) (elementAt N v) (λ p. getD ws (source N v p) 0)) (size N)
 
 -- every word fits its node's width
 abbrev pub WordsFit : Net → List ℕ → Type 0

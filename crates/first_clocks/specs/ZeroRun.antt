@@ -15,7 +15,7 @@ use Rattle.netlist.specs.declared.Element.the-variants.{Input, Output, Register
 use Rattle.netlist.specs.Net.{Net, size, elementAt, widthAt, source, gives, contentsAt, isInput, holdsWord, portOf, Behaves, Sourced}
 use Rattle.netlist.specs.Checks.{WellFormed}
 use Rattle.circuit.specs.Code.{numberOr}
-use Rattle.behaviour.specs.Run.{gives-now, holds-next, holds-first, holderOf, contentsNow, again, words, stateAt, runWord, zeroWord}
+use Rattle.behaviour.specs.Run.{gives-now, holds-next, holds-first, holderOf, contentsNow, contents-now, again, words, stateAt, runWord, zeroWord}
 use Rattle.behaviour.specs.Meaning.{settles, the-run-behaves}
 use Rattle.behaviour.specs.Settled.{settled, settled-once}
 use Rattle.behaviour.specs.Fits.{words-fit}
@@ -144,11 +144,13 @@ module _ (N : Net) (wf : WellFormed N) where
         ∙ sym (all-settled v h) ∙ all-is v ∙ sym (l .at v h (holder-loaded (elementAt N v) e)) ∙ sym (getD-select (rowTest State N) (λ k. getD ws k 0) (size N) v 0 h e)
 
     still : (v : ℕ) → v < size N → getD all v 0 ≡ again N (rowOf State N ws) (rowOf Inputs N ws) all v
-    unfolding again contentsNow
+    unfolding again
     still v h =
         all-settled v h
+        ∙ ap (λ (M : List ℕ). gives-now M (elementAt N v) (widthAt N v) (λ p. widthAt N (source N v p)) (getD [] (portOf N v) 0) (getD (stateAt N (λ s. []) t) (holderOf N v) 0) (λ p. getD all (source N v p) 0)) (contents-now N (stateAt N (λ s. []) t) v)
         ∙ now-alike (contentsAt N v) (widthAt N v) (λ p. widthAt N (source N v p)) (getD [] (portOf N v) 0) (getD (rowOf Inputs N ws) (portOf N v) 0) (getD (stateAt N (λ s. []) t) (holderOf N v) 0)
         (getD (rowOf State N ws) (holderOf N v) 0) (λ p. getD all (source N v p) 0) (elementAt N v) (input-same v h) (holder-same v h)
+        ∙ ap (λ (M : List ℕ). gives-now M (elementAt N v) (widthAt N v) (λ p. widthAt N (source N v p)) (getD (rowOf Inputs N ws) (portOf N v) 0) (getD (rowOf State N ws) (holderOf N v) 0) (λ p. getD all (source N v p) 0)) (sym (contents-now N (rowOf State N ws) v))
 
     -- evaluated they are the words of the clock
     pub words-at : {ws′ : List ℕ} → Evaluated N ws ws′ → WordsAt N t ws′

@@ -7,10 +7,9 @@ use lib.ListN.{length}
 use Rattle.lists.specs.SelectLaws.{member, members-map}
 use Rattle.netlist.specs.Net.{size}
 use Rattle.circuit.specs.Circuit.{netOf}
-use Rattle.behaviour.specs.Run.{contentsNow, nextState}
-use Rattle.behaviour.specs.Service.{bytesOf}
+use Rattle.behaviour.specs.Service.{bytesOf, wordsIn}
 use Rattle.evaluate.specs.Rows.{rowTest}
-use Rattle.evaluate.specs.Next.{nextWord}
+use Rattle.evaluate.specs.Next.{nextWord, next-state}
 use Rattle.evaluate.specs.declared.Row.the-variants.{State}
 use Rattle.run.proofs.Filling.{Filling, fill-none, fill-put, fill-room, fill-kept, fill-all}
 use borrow.Author.Needs.{needs}
@@ -66,11 +65,10 @@ same-length : tie.Need-same-length Inv-loop μ-loop
 same-length c = fill-kept (c .before .loop .inv)
 
 returns : tie.Need-returns Inv-loop μ-loop
-unfolding nextState contentsNow
 returns c =
     let a = c .before .before .before .before .before .before .before .args in
     let N = netOf (a .file .now) (a .net .now) in
-    fill-all (c .before .loop .inv) (omega arith) ∙ ap (λ (l : List ℕ). bytesOf l) (members-map (rowTest State N) (size N) (c .before .before .before .before .before .before .before .pre .1 .1) (λ u. nextWord N (a .words .now) u))
+    fill-all (c .before .loop .inv) (omega arith) ∙ ap (λ (l : List ℕ). bytesOf l) (members-map (rowTest State N) (size N) (c .before .before .before .before .before .before .before .pre .1 .1) (λ u. nextWord N (a .words .now) u) ∙ next-state N (wordsIn (a .state .now)) (a .words .now))
 
 pub store-state-spec : {M : Type 1} → statement M
 store-state-spec =
