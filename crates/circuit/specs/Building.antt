@@ -8,6 +8,7 @@ use lib.ListN.{length, getD, set, take, drop, length-set}
 use lib.Seq.{sets, length-sets, sets-eq, getD-set-same, getD-set-other, getD-append-add, getD-take, length-take-le, take-append-seam, take-suc, take-all, ext-getD}
 use borrow.Author.Count.{below-more}
 use Rattle.lists.specs.Lists.{below, upFrom}
+use Rattle.lists.specs.ListsLaws.{map-append}
 use Rattle.lists.specs.BelowLaws.{length-listed, getD-listed, upFrom-split}
 use Rattle.netlist.specs.declared.Node.{Node}
 use Rattle.netlist.specs.ScanLaws.{TableAt}
@@ -22,10 +23,6 @@ use Rattle.circuit.specs.CircuitLaws.{size-nodes, size-tables}
 pub listed-same : {A : Type 0} (d : A) (f g : ℕ → A) {n m : ℕ} → n ≡ m → ((j : ℕ) → j < m → f j ≡ g j) → map f (below n) ≡ map g (below m)
 listed-same d f g {n} {m} e same = ext-getD d _ _ (length-listed f n ∙ e ∙ sym (length-listed g m))
     (λ j h. getD-listed f n j d (omega (arith, length-listed f n)) ∙ same j (omega (arith, length-listed f n)) ∙ sym (getD-listed g m j d (omega (arith, length-listed f n))))
-
-map-append : {A B : Type 0} (f : A → B) (l m : List A) → map f (l ++ m) ≡ map f l ++ map f m
-map-append f [] m = refl
-map-append {B = B} f (x ∷ l) m = ap (λ (y : List B). f x ∷ y) (map-append f l m)
 
 pub listed-more : {A : Type 0} (f : ℕ → A) (n : ℕ) → map f (below (n + 1)) ≡ map f (below n) ++ (f n ∷ [])
 listed-more f n = ap (map f) (upFrom-split 0 n 1) ∙ map-append f (below n) (upFrom (0 + n) 1) ∙ ap (λ (k : ℕ). map f (below n) ++ (f k ∷ [])) (zero-add n)

@@ -25,7 +25,7 @@ use Rattle.plan.specs.Plan.{RegAt, Planned}
 abbrev pub newNode : Net → ℕ → Node
 newNode N i = nodeOf N (timing N) (zeroWord N) (getD (places N (timing N) (zeroWord N)) i noPlace)
 
--- what stands in a work area from an offset on, for the first n
+-- what stands in a list from an offset on, for the first n
 abbrev pub readBy : List ℕ → ℕ → ℕ → ℕ → ℕ
 readBy sources at n p = cond (ltb p n) (getD sources (at + p) 0) 0
 

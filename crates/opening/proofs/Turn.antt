@@ -6,6 +6,7 @@ use native.Mathlib.Omega.{arith}
 use lib.ListN.{length, length-append, length-map}
 use lib.Dec.{eqb}
 use borrow.Author.Tests.{eq-eqb}
+use Rattle.lists.specs.ListsLaws.{no-length, map-append}
 use Rattle.lists.specs.Paths.{on-true, on-lt, off-lt, off-eq}
 use Rattle.netlist.specs.Scan.{refused, found, follow, stepAt, walk, scan}
 use Rattle.netlist.specs.ScanLaws.{NodeAt, table-step, node-step, walk-step, scan-found}
@@ -31,14 +32,6 @@ module _ (s l : List ℕ) where
   pub bad-head : (r : ℕ) → length s ≤ 46000 → Headed s r → (r ≡ 0 → ⊥) → Filled s l (Refuses r 0)
   unfolding scan
   bad-head r k h n = refusal (off-lt _ _ 46000 (length s) k (off-eq _ _ r 0 n refl ∙ sym (h .goes)))
-
-length-none : (l : List ℕ) → length l ≡ 0 → l ≡ []
-length-none [] e = refl
-length-none (x ∷ l) e = absurd (omega arith)
-
-map-more : (s : List ℕ) (ns : List ℕ) (at : ℕ) → map (nodeIn s) (ns ++ (at ∷ [])) ≡ map (nodeIn s) ns ++ (nodeIn s at ∷ [])
-map-more s [] at = refl
-map-more s (x ∷ ns) at = ap (λ (y : List Node). nodeIn s x ∷ y) (map-more s ns at)
 
 -- the reading has come to an offset, with t tables and n nodes before it, which the circuit shows
 pub record Turn (s l : List ℕ) (at t n : ℕ) : Type 0 where
@@ -135,7 +128,7 @@ module _ {s l : List ℕ} {at t n : ℕ} (w : Turn s l at t n) where
       }
     where
       none : w .nodes ≡ []
-      none = length-none (w .nodes) (sym (w .node-count) ∙ table-step s at t n next e .3)
+      none = no-length (w .nodes) (sym (w .node-count) ∙ table-step s at t n next e .3)
 
   pub node-turns : {next : ℕ} {m : List ℕ} {x : Node} → stepAt s at t n ≡ NodeField next → x ≡ nodeIn s at → Pushed l x m → Turn s m next t (n + 1)
   node-turns {next} {m} {x} e is p =
@@ -151,7 +144,7 @@ module _ {s l : List ℕ} {at t n : ℕ} (w : Turn s l at t n) where
         nodes = w .nodes ++ (at ∷ []);
         table-count = w .table-count;
         node-count = omega (arith, w .node-count, length-append (w .nodes) (at ∷ []));
-        built = subst (λ (xs : List Node). Built (w .tables) xs m) (ap (λ (y : Node). map (nodeIn s) (w .nodes) ++ (y ∷ [])) is ∙ sym (map-more s (w .nodes) at)) (built-node (w .built) p);
+        built = subst (λ (xs : List Node). Built (w .tables) xs m) (ap (λ (y : Node). map (nodeIn s) (w .nodes) ++ (y ∷ [])) is ∙ sym (map-append (nodeIn s) (w .nodes) (at ∷ []))) (built-node (w .built) p);
         fuel = f .0;
         enough = omega (arith, b .0, g);
         goes = f .2;

@@ -1,4 +1,4 @@
--- The places of the rewritten netlist that are no registers, as two work areas hold them: the old node of each, and its reset word. Assumes nothing.
+-- The places of the rewritten netlist that are no registers, as two lists hold them: the old node of each, and its reset word. Assumes nothing.
 use mathlib.Core.Path.{_≡_}
 use mathlib.Core.List.{List, _++_, map}
 use Prim.Native.Nat.{ℕ, _+_, _*_, _≤_, _<_}

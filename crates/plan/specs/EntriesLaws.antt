@@ -12,7 +12,7 @@ use lib.Dec.{eqb, ltb}
 use borrow.Author.Tests.{eq-eqb, ne-eqb, lt-ltb, le-ltb}
 use Rattle.lists.specs.Lists.{below, concatMap, only, has, addNew, distinctFrom, distinct}
 use Rattle.lists.specs.BelowLaws.{true-or-false, lt-or-le, getD-map-lt, lt-suc-split}
-use Rattle.lists.specs.ListsLaws.{getD-has}
+use Rattle.lists.specs.ListsLaws.{getD-has, map-append}
 use Rattle.lists.specs.Sections.{section-length, section-put, section-before, section-after}
 use Rattle.netlist.specs.declared.Element.{Element}
 use Rattle.netlist.specs.declared.Element.the-variants.{Input, Output, Register, Async, Clocked, Gate}
@@ -122,10 +122,6 @@ add-none c d e = rw e
 add-one : (c : ℕ) (d : List ℕ) → has c d ≡ false → addNew c d ≡ d ++ c ∷ []
 add-one c d e = rw e
 
-map-snoc : (u c : ℕ) (d : List ℕ) → map (Entry u) (d ++ c ∷ []) ≡ map (Entry u) d ++ Entry u c ∷ []
-map-snoc u c [] = refl
-map-snoc u c (x ∷ d) = ap (λ (l : List Place). Entry u x ∷ l) (map-snoc u c d)
-
 add-longer : (c : ℕ) (d : List ℕ) → length d ≤ length (addNew c d)
 add-longer c d = ⊎-elim (λ t. rw (add-none c d t) (le-refl _)) (λ t. rw (add-one c d t) (omega (arith, length-append d (c ∷ [])))) (true-or-false (has c d))
 
@@ -178,7 +174,7 @@ module _ (pre : List Place) (u : ℕ) (d : List ℕ) where
               go (n, s) =
                   let new : has c d ≡ false = has-none c d (λ j l q. f .passed (length pre + j) (omega arith) (omega (arith, so-far-length)) (word-held owners words s j l ∙ q)) in
                   placing-as refl refl
-                  (append-assoc pre (map (Entry u) d) (Entry u c ∷ []) ∙ ap (λ (l : List Place). pre ++ l) (sym (map-snoc u c d)) ∙ ap (λ (l : List ℕ). pre ++ map (Entry u) l) (sym (add-one c d new)))
+                  (append-assoc pre (map (Entry u) d) (Entry u c ∷ []) ∙ ap (λ (l : List Place). pre ++ l) (sym (map-append (Entry u) d (c ∷ []))) ∙ ap (λ (l : List ℕ). pre ++ map (Entry u) l) (sym (add-one c d new)))
                   (placing-more t a b u c)
 
 -- ---- the wires one after the other

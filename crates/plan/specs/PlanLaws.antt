@@ -1,4 +1,4 @@
--- From the work areas of each step to the plan. Assumes nothing.
+-- From the areas of each step to the plan. Assumes nothing.
 use mathlib.Core.Path.{_≡_, refl, sym, ap, ap₂, subst, _∙_}
 use mathlib.Core.Logic.{⊎-elim}
 use mathlib.Core.Bool.{Bool, true, false, cond}

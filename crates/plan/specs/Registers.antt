@@ -1,4 +1,4 @@
--- The registers of the rewritten netlist, wire by wire, and what each reader reads, as four work areas hold them. Assumes nothing.
+-- The registers of the rewritten netlist, wire by wire, and what each reader reads, as four lists hold them. Assumes nothing.
 use mathlib.Core.Path.{_≡_}
 use mathlib.Core.Bool.{true, false, cond}
 use mathlib.Core.List.{List, []}
@@ -60,7 +60,7 @@ module _ (N : Net) where
     pub few : entryCount ≤ 1024
 
   module _ (owners words late sources : List ℕ) where
-    -- what the work areas hold of an entry's operand p, and of a register
+    -- what the lists hold of an entry's operand p, and of a register
     abbrev pub HeadHeld : ℕ → Place → ℕ → Type 0
     HeadHeld m (Entry x c) p = p < operands (elementAt N x) → getD sources m 0 ≡ numberOf N (timing N) (zeroWord N) (along N (timing N) (zeroWord N) x c p 0)
     HeadHeld m (Reg x c p j) q = Unit {0}

@@ -38,7 +38,7 @@ pub record Back (N : Net) (v u k : ℕ) : Type 0 where
 pub back-more : {N : Net} {v u s k : ℕ} → Back N v u k → Back N u s 1 → Back N v s (k + 1)
 back-more a b = record { inside = b .inside; same-root = a .same-root ∙ b .same-root; more = omega (arith, a .more, b .more) }
 
--- node v of two work areas is written
+-- node v of two lists is written
 pub record Written (roots passes more through : List ℕ) (v x y : ℕ) : Type 0 where
   pub roots-are : more ≡ set roots v x
   pub passes-are : through ≡ set passes v y
@@ -79,7 +79,7 @@ module _ (N : Net) where
         more = let f = ap (passed N) is in omega arith;
       }
 
-  -- ---- a node of work areas where each is traced or waits, told by its mark
+  -- ---- a node of lists where each is traced or waits, told by its mark
 
   module _ {roots passes : List ℕ} {u : ℕ} (t : HalfTraced N roots passes (size N)) (h : u < size N) where
     pub traced-already : (getD passes u 0 ≡ 65535 → ⊥) → Traced N roots passes u

@@ -1,4 +1,4 @@
--- The wires of each ROM, linked from one to the next in two work areas. Assumes nothing.
+-- The wires of each ROM, linked from one to the next by two lists. Assumes nothing.
 use mathlib.Core.Path.{_≡_, refl, sym, ap, subst, _∙_}
 use mathlib.Core.Logic.{⊎-elim}
 use mathlib.Core.Bool.{true}

@@ -18,7 +18,7 @@ use Rattle.retiming.specs.Rewrite.{root, passed, ownHere, memoryAt, oldOn, regi
 use Rattle.leads.specs.Settled.{LeadsIn}
 use Rattle.wires.specs.Traced.{rootsIn, passesIn, AllTraced}
 
--- what the rewriter knows of a netlist before it plans: 6 to 11 are passed, and three work areas hold the leads and where the wires come from
+-- what the rewriter knows of a netlist before it plans: 6 to 11 are passed, and three lists hold the leads and where the wires come from
 pub record Ready (N : Net) (leads roots passes : List ℕ) : Type 0 where
   pub formed : WellFormed N
   pub debtless : closedDebt N ≡ false
@@ -76,7 +76,7 @@ module _ (N : Net) where
   lastClock k = countFrom N (readerOf k) (sourceOf k) + lead N (readerOf k)
 
   module _ (ends froms clocks : List ℕ) where
-    -- what three work areas hold of a wire: its root, its source, and where the root is a ROM the clock of its reset word
+    -- what three lists hold of a wire: its root, its source, and where the root is a ROM the clock of its reset word
     pub record Wired (k : ℕ) : Type 0 where
       pub end : getD ends k 0 ≡ root N (sourceOf k)
       pub from : getD froms k 0 ≡ sourceOf k
@@ -99,6 +99,6 @@ module _ (N : Net) where
   abbrev pub Entered : List ℕ → ℕ → Type 0
   Entered wires k = WiredTo (endsIn wires) (fromsIn wires) (clocksIn wires) k
 
-  -- a work area has the reset word that each wire's root needs for it
+  -- a list has the reset word that each wire's root needs for it
   abbrev pub Copied : List ℕ → Type 0
   Copied copied = (k : ℕ) → k < 3 * size N → wireAt k ≡ true → getD copied k 0 ≡ copyOn N (timing N) (zeroWord N) (k / 3) (k % 3)

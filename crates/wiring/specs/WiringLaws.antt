@@ -10,7 +10,7 @@ use lib.ListN.{length, getD, set, replicate, getD-replicate}
 use lib.Seq.{getD-set-same, getD-set-other}
 use borrow.Author.Tests.{lt-ltb, le-ltb, ltb-true}
 use Rattle.lists.specs.Lists.{one}
-use Rattle.lists.specs.Sections.{section-length, section-read, section-put, section-before, section-after}
+use Rattle.lists.specs.Sections.{section-length, section-put, section-before, section-after}
 use Rattle.lists.specs.BelowLaws.{lt-suc-split, lt-or-le, countBelow-le}
 use Rattle.netlist.specs.declared.Element.{Element}
 use Rattle.netlist.specs.declared.Element.the-variants.{Input, Output, Register, Async, Clocked, Gate}
@@ -20,7 +20,7 @@ use Rattle.retiming.specs.AtMostRoms.{romCount, lead-at-most-roms}
 use Rattle.retiming.specs.Rewrite.{root, ownHere, memoryAt}
 use Rattle.retiming.specs.Wires.{root-within}
 use Rattle.wires.specs.Traced.{rootsIn, passesIn}
-use Rattle.wires.specs.TracedLaws.{passed-few}
+use Rattle.wires.specs.TracedLaws.{passed-few, root-at, pass-at}
 use Rattle.wiring.specs.Wiring.{Ready, Timed, headsIn, Entered, countFrom, wiresTo, sourceOf, wireAt, lastClock, Wired, Unwired, WiredTo}
 
 pub wires-few : (e : Element) → wiresTo e ≤ operands e
@@ -36,7 +36,7 @@ one-few true = omega arith
 one-few false = omega arith
 
 module _ {N : Net} {leads roots passes : List ℕ} (t : Ready N leads roots passes) where
-  -- the leads in the work area are small
+  -- the leads are small
   pub lead-few : (v : ℕ) → v < size N → getD leads v 0 ≤ 1024
   unfolding romCount
   lead-few v h =
@@ -52,7 +52,7 @@ module _ {N : Net} {leads roots passes : List ℕ} (t : Ready N leads roots pass
     pub passed-small : getD passes s 0 ≤ 1024
     passed-small = omega (arith, t .traced s h .through, passed-few N s, t .formed .fields .bounds .nodes)
 
-    -- the registers on a wire, from what the work areas hold
+    -- the registers on a wire, from what the lists hold
     module _ {x : ℕ} (k : x < size N) where
       pub counted : ((getD passes s 0 + one (isClocked (elementAt N u)) + getD leads u 0) - getD leads x 0) - one (isMemory (elementAt N u)) ≡ countFrom N x s
       unfolding countFrom ownHere memoryAt
@@ -69,10 +69,10 @@ module _ {N : Net} {leads roots passes : List ℕ} (t : Ready N leads roots pass
 -- the root and the registers passed, as the code reads them
 module _ {N : Net} {timing : List ℕ} {s : ℕ} (t : Timed N timing) (h : s < size N) where
   pub root-read : getD timing (1024 + s) 0 ≡ getD (rootsIn timing) s 0
-  root-read = sym (section-read 1024 1024 timing s (omega (arith, t .formed .fields .bounds .nodes)))
+  root-read = root-at timing s h (t .formed .fields .bounds .nodes) refl
 
   pub passed-read : getD timing (2048 + s) 0 ≡ getD (passesIn timing) s 0
-  passed-read = sym (section-read 2048 1024 timing s (omega (arith, t .formed .fields .bounds .nodes)))
+  passed-read = pass-at timing s h (t .formed .fields .bounds .nodes) refl
 
 -- ---- one wire more
 
@@ -128,7 +128,7 @@ module _ {N : Net} {ends froms clocks : List ℕ} {k : ℕ} (w : WiredTo N ends 
       ahead = λ j l m. none j (λ z. omega arith) (w .ahead j (omega arith) m);
     }
 
--- the same of equal work areas, and of equal numbers
+-- the same of equal lists, and of equal numbers
 pub wired-as : {N : Net} {e e′ f f′ c c′ : List ℕ} {k : ℕ} → e′ ≡ e → f′ ≡ f → c′ ≡ c → WiredTo N e f c k → WiredTo N e′ f′ c′ k
 wired-as {N} {e} {e′} {f} {f′} {c} {c′} {k} p q r w =
     subst (λ (y : List ℕ). WiredTo N y f′ c′ k) (sym p) (subst (λ (y : List ℕ). WiredTo N e y c′ k) (sym q) (subst (λ (y : List ℕ). WiredTo N e f y k) (sym r) w))
