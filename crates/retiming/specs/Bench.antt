@@ -1,5 +1,5 @@
 -- The bench netlists of document 01 that are marked P, in one list: a file's bytes in; the refusal, or the rewritten bytes, the leads and the output words of the
--- first clocks out. One computation checks them all. Assumes nothing.
+-- first clocks out; and the preview. One computation checks them all. Assumes nothing.
 use mathlib.Core.Path.{_≡_, refl}
 use mathlib.Core.Logic.{⊎-elim}
 use mathlib.Core.Bool.{true, not}
@@ -17,8 +17,12 @@ use Rattle.netlist.specs.declared.Answer.the-variants.{Accepted, Refused}
 use Rattle.codec.specs.Bytes.{Bytes}
 use Rattle.behaviour.specs.Service.{bytesOf, wordsIn, resetFile, Entry, runsFile}
 use Rattle.behaviour.specs.Entries.{stateBytes}
+use Rattle.retiming.specs.declared.Preview.{Preview}
+use Rattle.retiming.specs.declared.Preview.the-variants.{Fits}
+use Rattle.retiming.specs.declared.Preview.the-variants as preview
 use Rattle.retiming.specs.Leads.{lead}
 use Rattle.retiming.specs.FileRewrite.{Rewrote, rewrittenFile, rewriteFile}
+use Rattle.retiming.specs.Preview.{previewFile}
 use Rattle.retiming.specs.Demand3.{demand-3}
 use Rattle.retiming.specs.Computing.{computing}
 
@@ -38,6 +42,7 @@ pub record Case : Type 0 where
   pub file : List ℕ
   pub clocks : List Clock
   pub gives : Gives
+  pub preview : Preview
 
 -- ---- what the definitions say
 
@@ -51,26 +56,31 @@ outputWords s cs =
     map (λ x. wordsIn (x .outputs))
     (runsFile s (resetFile s (replicate (stateBytes s) 255) .state) (map (λ c. record { inputs = bytesOf (c .inputs); outputs = replicate (2 * length (c .outputs)) 255 }) cs))
 
--- into an output of 100 bytes: the answer, and the words of the old file and of the new one
+-- into an output of 100 bytes: the answer, and the words of the old file and of the new one; before it, the preview
 pub record Found : Type 0 where
+  pub preview : Preview
   pub gives : Gives
   pub old : List (List ℕ)
   pub new : List (List ℕ)
 
 foundBy : Rewrote → Answer → Case → Found
-foundBy r (Refused k p) c = record { gives = refusal k p; old = []; new = [] }
-foundBy r (Accepted n) c = record { gives = result (take n (r .out)) (leadsIn (decode (c .file))); old = outputWords (c .file) (c .clocks); new = outputWords (take n (r .out)) (c .clocks) }
+foundBy r (Refused k p) c = record { preview = previewFile (c .file); gives = refusal k p; old = []; new = [] }
+foundBy r (Accepted n) c = record { preview = previewFile (c .file); gives = result (take n (r .out)) (leadsIn (decode (c .file))); old = outputWords (c .file) (c .clocks); new = outputWords (take n (r .out)) (c .clocks) }
 
 pub found : Case → Found
 found c = let r = rewriteFile (c .file) (replicate 100 0) in foundBy r (r .answer) c
 
 pub expected : Case → Found
-expected c = record { gives = c .gives; old = map (λ k. k .outputs) (c .clocks); new = map (λ k. k .outputs) (c .clocks) }
+expected c = record { preview = c .preview; gives = c .gives; old = map (λ k. k .outputs) (c .clocks); new = map (λ k. k .outputs) (c .clocks) }
 
 -- ---- the netlists, in document 01's order
 
 clock : List ℕ → List ℕ → Clock
 clock ins outs = record { inputs = ins; outputs = outs }
+
+-- clocked ROMs, registers, length, largest lead
+sized : ℕ → ℕ → ℕ → ℕ → Preview
+sized c r n m = Fits (record { clocked = c; registers = r; length = n; lead = m })
 
 -- empty: `01 00 01 01 04 00 00` gives itself
 empty : Case
@@ -83,6 +93,7 @@ empty = record {
       (0x01 ∷ 0x00 ∷ 0x01 ∷ 0x01
       ∷ 0x04 ∷ 0x00 ∷ 0x00 ∷ [])
       [];
+  preview = sized 0 0 7 0;
 }
 
 -- adder (document 000, figure 1): outputs 1,2,0,3,1. Leads: ROM 1, add 0
@@ -107,6 +118,7 @@ adder = record {
       ∷ 0x03 ∷ 0x00 ∷ 0x06 ∷ 0x02 ∷ 0x02 ∷ 0x00 ∷ 0x01 ∷ 0x00 ∷ 0x01
       ∷ 0x04 ∷ 0x00 ∷ 0x00 ∷ [])
       (1 ∷ 0 ∷ 0 ∷ []);
+  preview = sized 1 2 65 1;
 }
 
 -- toggle: the clocked ROM reads itself and resets to 1; outputs 1,0,1,0
@@ -127,6 +139,7 @@ toggle = record {
       ∷ 0x03 ∷ 0x00 ∷ 0x04 ∷ 0x01 ∷ 0x01 ∷ 0x00 ∷ 0x00
       ∷ 0x04 ∷ 0x00 ∷ 0x00 ∷ [])
       (1 ∷ 0 ∷ []);
+  preview = sized 1 0 33 1;
 }
 
 -- input, asynchronous ROM, output: 12
@@ -141,6 +154,7 @@ bare = record {
       ∷ 0x04 ∷ 0x00 ∷ 0x00 ∷ [];
   clocks = [];
   gives = refusal 12 0;
+  preview = preview.Refused 12 0;
 }
 
 -- input, register, asynchronous ROM, output: accepted, reset word M[register's reset]. The register resets to 3, and M[3] is 2
@@ -163,6 +177,7 @@ before = record {
       ∷ 0x03 ∷ 0x00 ∷ 0x04 ∷ 0x01 ∷ 0x02 ∷ 0x00 ∷ 0x01
       ∷ 0x04 ∷ 0x00 ∷ 0x00 ∷ [])
       (0 ∷ 1 ∷ 0 ∷ []);
+  preview = sized 1 0 42 1;
 }
 
 -- input, asynchronous ROM, register, output: accepted, with the register's reset: 1, where M[1] is 2 and M[0] is 3
@@ -185,6 +200,7 @@ behind = record {
       ∷ 0x03 ∷ 0x00 ∷ 0x04 ∷ 0x01 ∷ 0x02 ∷ 0x00 ∷ 0x01
       ∷ 0x04 ∷ 0x00 ∷ 0x00 ∷ [])
       (0 ∷ 0 ∷ 0 ∷ []);
+  preview = sized 1 0 42 0;
 }
 
 -- one asynchronous ROM read by two registers reset 1 and 2: two clocked ROMs
@@ -211,6 +227,7 @@ split = record {
       ∷ 0x03 ∷ 0x00 ∷ 0x04 ∷ 0x01 ∷ 0x02 ∷ 0x00 ∷ 0x02
       ∷ 0x04 ∷ 0x00 ∷ 0x00 ∷ [])
       (0 ∷ 0 ∷ 0 ∷ 0 ∷ []);
+  preview = sized 2 0 59 0;
 }
 
 -- input, asynchronous ROM, not, register, output: 12
@@ -227,6 +244,7 @@ turned = record {
       ∷ 0x04 ∷ 0x00 ∷ 0x00 ∷ [];
   clocks = [];
   gives = refusal 12 0;
+  preview = preview.Refused 12 0;
 }
 
 -- a loop of two asynchronous ROMs and one register: 11
@@ -242,6 +260,7 @@ owing = record {
       ∷ 0x04 ∷ 0x00 ∷ 0x00 ∷ [];
   clocks = [];
   gives = refusal 11 65535;
+  preview = preview.Refused 11 65535;
 }
 
 pub bench : List Case
@@ -249,7 +268,7 @@ bench = empty ∷ adder ∷ toggle ∷ bare ∷ before ∷ behind ∷ split ∷ 
 
 -- THE THEOREM
 pub bench-holds : map found bench ≡ map expected bench
-unfolding computing leadsIn outputWords foundBy found expected clock empty adder toggle bare before behind split turned owing bench
+unfolding computing leadsIn outputWords foundBy found expected clock sized empty adder toggle bare before behind split turned owing bench
 bench-holds = refl
 
 -- ---- and not for the first clocks alone: demand 3, for instance of the adder
@@ -261,5 +280,5 @@ byte-list s t i =
 adder-for-ever : (es : List Entry)
     → runsFile (adder .file) (resetFile (adder .file) (0 ∷ 0 ∷ []) .state) es
     ≡ runsFile (rewrittenFile (adder .file)) (resetFile (rewrittenFile (adder .file)) (0 ∷ 0 ∷ 0 ∷ 0 ∷ 0 ∷ 0 ∷ []) .state) es
-unfolding computing adder clock
+unfolding computing adder clock sized
 adder-for-ever es = demand-3 (adder .file) (rewrittenFile (adder .file)) (byte-list (adder .file) refl) refl refl .3 (0 ∷ 0 ∷ []) (0 ∷ 0 ∷ 0 ∷ 0 ∷ 0 ∷ 0 ∷ []) refl refl .2 es .0

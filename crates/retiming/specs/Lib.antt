@@ -31,5 +31,9 @@ pub mod Demand3
 pub mod Demand3Corollaries
 pub mod FileRefusals
 pub mod Demand2
+pub mod Preview
+pub mod LargestLead
+pub mod PreviewLaws
+pub mod PreviewAgrees
 pub mod Computing
 pub mod Bench

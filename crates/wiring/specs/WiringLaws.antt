@@ -11,7 +11,7 @@ use lib.Seq.{getD-set-same, getD-set-other}
 use borrow.Author.Tests.{lt-ltb, le-ltb, ltb-true}
 use Rattle.lists.specs.Lists.{one}
 use Rattle.lists.specs.Sections.{section-length, section-put, section-before, section-after}
-use Rattle.lists.specs.BelowLaws.{lt-suc-split, lt-or-le, countBelow-le}
+use Rattle.lists.specs.BelowLaws.{lt-suc-split, lt-or-le, countBelow-le, bit-true, bit-false}
 use Rattle.netlist.specs.declared.Element.{Element}
 use Rattle.netlist.specs.declared.Element.the-variants.{Input, Output, Register, Async, Clocked, Gate}
 use Rattle.netlist.specs.Net.{Net, size, elementAt, source, operands, isRegister, isAsync, isMemory, isClocked, Sourced}
@@ -198,15 +198,6 @@ memory-sum (Register r) = refl
 memory-sum (Async m) = refl
 memory-sum (Clocked m r) = refl
 memory-sum (Gate o) = refl
-
--- a bit that is tested
-pub bit-true : (b : Bool) → one b ≡ 1 → b ≡ true
-bit-true true h = refl
-bit-true false h = absurd (omega arith)
-
-pub bit-false : (b : Bool) → (one b ≡ 1 → ⊥) → b ≡ false
-bit-false true h = absurd (h refl)
-bit-false false h = refl
 
 -- the clock of a ROM
 pub rom-some : (e : Element) (clock : ℕ) {n : ℕ} → n ≡ one (isMemory e) → n ≡ 1 → clock ≡ cond (isMemory e) clock 65535

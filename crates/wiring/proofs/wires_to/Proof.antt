@@ -3,7 +3,8 @@ use Rattle.netlist.specs.Net.{elementAt, isRegister}
 use Rattle.circuit.specs.Circuit.{netOf}
 use mathlib.Core.Path.{sym, _∙_}
 use native.Mathlib.Omega.{arith}
-use Rattle.wiring.specs.WiringLaws.{register-wires, other-wires, bit-true, bit-false}
+use Rattle.lists.specs.BelowLaws.{bit-true, bit-false}
+use Rattle.wiring.specs.WiringLaws.{register-wires, other-wires}
 use borrow.Author.Needs.{needs}
 use Rattle.wiring.proofs.wires_to.Statement.{statement}
 use Rattle.wiring.proofs.wires_to.Tie as tie

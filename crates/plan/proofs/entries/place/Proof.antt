@@ -6,7 +6,7 @@ use Rattle.lists.specs.Sections.{section-read}
 use Rattle.netlist.specs.Net.{size, elementAt, isRegister, isMemory}
 use Rattle.circuit.specs.Circuit.{netOf}
 use Rattle.wiring.specs.Links.{chained-as}
-use Rattle.wiring.specs.WiringLaws.{bit-true, bit-false}
+use Rattle.lists.specs.BelowLaws.{bit-true, bit-false}
 use Rattle.plan.specs.EntriesLaws.{entries-register, entries-plain, placing-more, placing-as, placing-count, rom-placed, owners-room, words-room}
 use borrow.Author.Needs.{needs}
 use Rattle.plan.proofs.entries.place.Statement.{statement}

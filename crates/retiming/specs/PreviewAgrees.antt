@@ -1,0 +1,57 @@
+-- THE PREVIEW AGREES WITH REWRITING, whole (document 02, T-01). Take any file. Where the preview gives a size, the rewriter takes the file into every output that is long
+-- enough, with just this length, the file that it writes has just these numbers of clocked ROMs and registers, and the largest lead is the largest excess of a walk. Where
+-- the preview is refused, so is the rewriting, into any output, with the same number and place; and 14 is no such number. This rules out a preview that counts a clocked
+-- ROM's own register, one that is off by a field, and one that says yes where the bench would say no. Assumes nothing.
+use mathlib.Core.Path.{_≡_, refl, sym, ap, subst, _∙_}
+use mathlib.Core.List.{List}
+use Prim.Native.Nat.{ℕ, _≤_}
+use lib.ListN.{length, take}
+use lib.Dec.{eqb}
+use Rattle.netlist.specs.Net.{countOf}
+use Rattle.netlist.specs.NodeField.{kindOf}
+use Rattle.netlist.specs.File.{Decoded, bad, good, decode}
+use Rattle.netlist.specs.declared.Answer.the-variants.{Accepted}
+use Rattle.netlist.specs.declared.Answer.the-variants as answer
+use Rattle.codec.specs.Bytes.{Bytes}
+use Rattle.retiming.specs.declared.Size.{Size}
+use Rattle.retiming.specs.declared.Preview.{Preview}
+use Rattle.retiming.specs.declared.Preview.the-variants.{Fits, Refused}
+use Rattle.retiming.specs.Rewrite.{rewritten}
+use Rattle.retiming.specs.FileRewrite.{rewriteFile}
+use Rattle.retiming.specs.PastDebt.{no-debt}
+use Rattle.retiming.specs.RewrittenFile.{Past13, netlists-alike}
+use Rattle.retiming.specs.Preview.{measured, sizeOf, previewFile}
+use Rattle.retiming.specs.LargestLead.{LargestOfAll, largest-of-all}
+use Rattle.retiming.specs.PreviewLaws.{preview-refused, fits-past, fits-size, at-most-13, refused-written, fits-written, clocked-kind-4, register-kind-2}
+
+-- the netlist that was read has so many nodes of kind 4 and so many of kind 2
+abbrev pub Counted : Size → Decoded → Type 0
+Counted z (bad k p) = ⊥
+Counted z (good M) = (countOf (λ e. eqb (kindOf e) 4) M ≡ z .clocked) × (countOf (λ e. eqb (kindOf e) 2) M ≡ z .registers)
+
+-- and this is the largest excess of a walk in it
+abbrev pub LeadIs : Size → Decoded → Type 0
+LeadIs z (bad k p) = ⊥
+LeadIs z (good N) = LargestOfAll N (z .lead)
+
+abbrev pub Agrees : List ℕ → Preview → Type 0
+Agrees s (Fits z) =
+    ((out : List ℕ) → z .length ≤ length out → (rewriteFile s out .answer ≡ Accepted (z .length)) × Counted z (decode (take (z .length) (rewriteFile s out .out))))
+    × LeadIs z (decode s)
+Agrees s (Refused k p) = ((out : List ℕ) → rewriteFile s out ≡ record { answer = answer.Refused k p; out = out }) × (k ≤ 13)
+
+pub preview-agrees : (s : List ℕ) → Bytes s → Agrees s (previewFile s)
+unfolding sizeOf measured
+preview-agrees s b = by-preview (previewFile s) refl
+  where
+    by-preview : (r : Preview) → previewFile s ≡ r → Agrees s r
+    by-preview (Fits z) e =
+        let t : Past13 s = fits-past s e in
+        let M = rewritten (t .net) in
+        let q : z ≡ sizeOf (t .net) = fits-size s e in (
+          λ out long.
+              let w = fits-written s b e out long in
+              (w .0, rw (w .1) (clocked-kind-4 M ∙ sym (ap (λ (y : Size). y .clocked) q), register-kind-2 M ∙ sym (ap (λ (y : Size). y .registers) q))),
+          rw (t .reads) (subst (LargestOfAll (t .net)) (sym (ap (λ (y : Size). y .lead) q)) (largest-of-all (t .net) (netlists-alike s b t .old .sourced) (no-debt (t .net) (t .debtless) .0))),
+        )
+    by-preview (Refused k p) e = let v = preview-refused s e in (refused-written s v, at-most-13 s v)
