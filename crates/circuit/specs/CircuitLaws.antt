@@ -2,11 +2,12 @@
 use mathlib.Core.Path.{_≡_, refl, sym, ap, ap₂, subst, _∙_}
 use mathlib.Core.List.{List}
 use Prim.Native.Nat.{ℕ, zero, suc, _+_, _*_, _^_, _≤_, _<_}
+use native.Mathlib.Numerals.{add-one}
 use native.Mathlib.Omega.{arith}
 use lib.ListN.{length, getD, drop, length-map, List·getD-eq-default}
 use lib.Seq.{getD-take, getD-drop}
 use lib.Dec.{eqb}
-use Rattle.lists.specs.Lists.{one}
+use Rattle.lists.specs.Lists.{one, countBelow}
 use Rattle.lists.specs.BelowLaws.{length-listed, getD-listed, getD-map-lt}
 use Rattle.words.specs.Words.{word}
 use Rattle.netlist.specs.declared.Element.{Element}
@@ -16,7 +17,7 @@ use Rattle.netlist.specs.TableField.{wordAt, tableRead}
 use Rattle.netlist.specs.TableLaws.{TableFacts, table-facts, content-length}
 use Rattle.netlist.specs.ScanLaws.{TableAt}
 use Rattle.netlist.specs.File.{tableIn}
-use Rattle.netlist.specs.Net.{Table, nowhere, noTable, spelled, size, nodeAt, elementAt, widthAt, source, operands, isInput, isRegister, isAsync, isClocked}
+use Rattle.netlist.specs.Net.{Table, Net, nowhere, noTable, spelled, size, nodeAt, elementAt, widthAt, source, operands, isInput, isRegister, isAsync, isClocked, countOf}
 use Rattle.circuit.specs.Code.{codeOf, elementBy, numberOr, tableOr, code-by, number-by, table-by, code-input, code-register, code-async, code-clocked}
 use Rattle.circuit.specs.Circuit.{field, atCode, atWidth, atCount, atNumber, atTable, atTurn, rowNode, rowAt, nodesOf, tablesOf, orderOf, netOf, Fits, Circuit}
 
@@ -115,6 +116,23 @@ module _ (e : Element) {c : ℕ} (q : c ≡ codeOf e) where
 
   pub clocked-is : {b : ℕ} → b ≡ one (eqb c 4) → b ≡ one (isClocked e)
   clocked-is r = r ∙ ap (λ (k : ℕ). one (eqb k 4)) q ∙ ap one (code-clocked e)
+
+-- the nodes of a kind, one more looked at
+pub kind-counted : (N : Net) (kind v : ℕ) {c bit k : ℕ} → c ≡ codeOf (elementAt N v) → bit ≡ one (eqb c kind) → k ≡ countBelow (λ u. eqb (codeOf (elementAt N u)) kind) v
+    → k + bit ≡ countBelow (λ u. eqb (codeOf (elementAt N u)) kind) (v + 1)
+kind-counted N kind v q b e =
+    let f : one (eqb _ kind) ≡ one (eqb (codeOf (elementAt N v)) kind) = ap (λ (x : ℕ). one (eqb x kind)) q in
+    omega (arith, ap (countBelow (λ u. eqb (codeOf (elementAt N u)) kind)) (add-one v))
+
+-- and the kinds by their classes
+pub registers-counted : (N : Net) → countOf (λ e. eqb (codeOf e) 2) N ≡ countOf isRegister N
+registers-counted N = λ i. countOf (λ e. code-register e i) N
+
+pub async-counted : (N : Net) → countOf (λ e. eqb (codeOf e) 3) N ≡ countOf isAsync N
+async-counted N = λ i. countOf (λ e. code-async e i) N
+
+pub clocked-counted : (N : Net) → countOf (λ e. eqb (codeOf e) 4) N ≡ countOf isClocked N
+clocked-counted N = λ i. countOf (λ e. code-clocked e i) N
 
 -- ---- a table's address bits and width
 

@@ -5,7 +5,7 @@ ghost use Prim.Native.Nat.{_+_, _*_, _^_, _<_, _≤_};
 ghost use lib.ListN.{length, getD, set};
 ghost use lib.Dec.{eqb};
 ghost use Rattle.lists.specs.Lists.{one};
-ghost use Rattle.netlist.specs.Net.{Net, noTable, spelled, size, elementAt, widthAt, source, operands, isInput, isRegister, isAsync, isClocked};
+ghost use Rattle.netlist.specs.Net.{Net, noTable, spelled, size, elementAt, widthAt, source, operands, isInput, isRegister, isAsync, isClocked, countOf};
 ghost use Rattle.netlist.specs.ScanLaws.{TableAt};
 ghost use Rattle.netlist.specs.File.{tableIn};
 ghost use Rattle.circuit.specs.Code.{codeOf, numberOr, tableOr};
@@ -164,6 +164,21 @@ pub fn clocked_rom(file: &[u8], net: &[u16], v: usize) -> usize
     ensures { λ r. ⌜ (r ≡ one (isClocked (elementAt (netOf (now (file .entry)) (now (net .entry))) v))) × (r ≤ 1) ⌝ }
 {
     is_kind(code_of(file, net, v), 4)
+}
+
+// How many nodes are of a kind.
+pub fn count_kind(file: &[u8], net: &[u16], kind: usize) -> usize
+    requires { ⌜ Circuit (now file) (now net) ⌝ }
+    ensures { λ r. ⌜ (r ≡ countOf (λ e. eqb (codeOf e) kind) (netOf (now (file .entry)) (now (net .entry)))) × (r ≤ 1024) ⌝ }
+{
+    let n = node_count(file, net);
+    let mut count: usize = 0;
+    let mut v: usize = 0;
+    while v < n {
+        count = count + is_kind(code_of(file, net, v), kind);
+        v = v + 1;
+    }
+    count
 }
 
 // The number of tables.

@@ -2,13 +2,15 @@
 use mathlib.Core.Path.{_≡_, refl, sym, ap, subst, _∙_}
 use mathlib.Core.List.{List}
 use Prim.Native.Nat.{ℕ, _+_, _≤_, _<_}
-use native.Mathlib.Numerals.{add-one}
 use native.Mathlib.Omega.{arith}
 use lib.ListN.{getD}
+use lib.Dec.{eqb}
 use borrow.Author.Count.{below-more}
-use Rattle.lists.specs.Lists.{one, countBelow}
+use Rattle.lists.specs.Lists.{one}
 use Rattle.lists.specs.BelowLaws.{countBelow-le}
-use Rattle.netlist.specs.Net.{Net, size, elementAt, source, operands, isRegister, isAsync, Sourced}
+use Rattle.netlist.specs.Net.{Net, size, elementAt, source, operands, isRegister, isAsync, countOf, Sourced}
+use Rattle.circuit.specs.Code.{codeOf}
+use Rattle.circuit.specs.CircuitLaws.{async-counted}
 use Rattle.retiming.specs.Leads.{asyncHere, registerHere}
 use Rattle.retiming.specs.AtMostRoms.{romCount}
 use Rattle.leads.specs.Progress.{Excess, Walked, Served, ServedTo, Content, Raise, enough, lifted, Progress, progress-none, progress-map, progress-more, raised-once}
@@ -17,18 +19,13 @@ pub raise-bit : {L M : List ℕ} {u due taken j : ℕ} → Raise L u due taken M
 raise-bit (enough l) = omega arith
 raise-bit (lifted l) = omega arith
 
-pub rom-count : (N : Net) {n : ℕ} → n ≡ size N → countBelow (λ v. isAsync (elementAt N v)) n ≡ romCount N
+pub rom-count : (N : Net) → countOf (λ e. eqb (codeOf e) 3) N ≡ romCount N
 unfolding romCount
-rom-count N e = ap (countBelow (λ v. isAsync (elementAt N v))) e
+rom-count N = async-counted N
 
 pub rom-few : (N : Net) → romCount N ≤ size N
 unfolding romCount
 rom-few N = countBelow-le (λ v. isAsync (elementAt N v)) (size N)
-
--- ---- the asynchronous ROMs among the first nodes, counted
-
-pub count-more : (N : Net) (x : ℕ) {k bit : ℕ} → bit ≡ one (isAsync (elementAt N x)) → k ≡ countBelow (λ v. isAsync (elementAt N v)) x → k + bit ≡ countBelow (λ v. isAsync (elementAt N v)) (x + 1)
-count-more N x b e = omega (arith, ap (countBelow (λ v. isAsync (elementAt N v))) (add-one x))
 
 -- ---- a visit to reader x, which has n operands
 

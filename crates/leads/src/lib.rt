@@ -1,9 +1,11 @@
 // The leads of an opened netlist, and with them the checks 11 and 12. Numbers from 0 up are raised until no reader asks more of what it reads.
+pub mod largest;
 mod worklist;
 
 use areas::fill;
 use areas::number_at;
 use circuit::async_rom;
+use circuit::count_kind;
 use circuit::input;
 use circuit::node_count;
 use circuit::register;
@@ -31,14 +33,7 @@ fn count_roms(file: &[u8], net: &[u16]) -> usize
     requires { ⌜ Circuit (now file) (now net) ⌝ }
     ensures { λ r. ⌜ r ≡ romCount (netOf (now (file .entry)) (now (net .entry))) ⌝ }
 {
-    let n = node_count(file, net);
-    let mut count: usize = 0;
-    let mut v: usize = 0;
-    while v < n {
-        count = count + async_rom(file, net, v);
-        v = v + 1;
-    }
-    count
+    count_kind(file, net, 3)
 }
 
 // Raises the lead of u to due - taken where it is lower, and then gives 1.
