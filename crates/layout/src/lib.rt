@@ -1,4 +1,6 @@
 // The planned netlist as a circuit: the tables as they came, and each node as it is planned.
+pub mod reset;
+
 use areas::number_at;
 use circuit::Row;
 use circuit::async_rom;

@@ -1,8 +1,7 @@
-// Where everything goes in the rewritten netlist, and with which reset words: document 01, "Leads and the rewritten file".
+// Where everything goes in the rewritten netlist, and which words its ROMs take over: document 01, "Leads and the rewritten file".
 mod entries;
 mod registers;
 
-use areas::copy;
 use areas::fill;
 use circuit::node_count;
 use entries::place_entries;
@@ -14,11 +13,10 @@ use wires::TIMING;
 use wiring::CLOCKS;
 use wiring::FROMS;
 use wiring::HEADS;
-use wiring::WIRES;
 use wiring::enter_wires;
 use wiring::links::link_wires;
 ghost use mathlib.Core.Path.{_≡_};
-ghost use Prim.Native.Nat.{_*_, _≤_};
+ghost use Prim.Native.Nat.{_*_};
 ghost use lib.ListN.{length};
 ghost use Rattle.netlist.specs.Net.{Net, size, inClock};
 ghost use Rattle.circuit.specs.Circuit.{orderOf};
@@ -27,18 +25,17 @@ ghost use Rattle.circuit.specs.Order.{Complete};
 ghost use Rattle.evaluate.specs.Clock.{Inside};
 ghost use Rattle.first_clocks.specs.Wanted.{WordsAt, Taken};
 ghost use Rattle.wiring.specs.Wiring.{Timed, fromsIn, clocksIn, Entered};
-ghost use Rattle.plan.specs.Areas.{ownersIn, sourcesIn};
-ghost use Rattle.plan.specs.Plan.{Planned, PlanLaid};
+ghost use Rattle.plan.specs.Plan.{PlanLaid};
 
 // The plan's area. Of each node of the rewritten netlist the old node whose width it has, the word of an entry, and the clock of a register's reset word;
 // where the entries of each old node begin; and what each node reads, three places to a node.
-const OWNERS: usize = 0;
+pub const OWNERS: usize = 0;
 
-const WORDS: usize = 1024;
+pub const WORDS: usize = 1024;
 
-const LATE: usize = 2048;
+pub const LATE: usize = 2048;
 
-const FIRSTS: usize = 3072;
+pub const FIRSTS: usize = 3072;
 
 pub const SOURCES: usize = 4096;
 
@@ -77,55 +74,33 @@ fn copied_words(
 }
 
 // Plans the rewritten netlist, from the words of the first clock. Where it has more than 1,024 nodes nothing is said of the area.
-pub fn make_plan(file: &[u8], net: &[u16], timing: &[u16], start: &[u16], plan: &mut [u16]) -> Plan
+pub fn make_plan(
+    file: &[u8],
+    net: &[u16],
+    timing: &[u16],
+    start: &[u16],
+    wires: &mut [u16],
+    plan: &mut [u16],
+) -> Plan
     ghost { Net }
     requires { λ N. opened 𝓤 (now file) (now net) N (Timed N (now timing) × (length (now timing) ≡ 3072) × Inside N × Complete inClock N (orderOf (now net))
-        × WordsAt N 0 (now start) × (length (now start) ≡ 1024) × (length (now plan) ≡ 7168)) }
+        × WordsAt N 0 (now start) × (length (now start) ≡ 1024) × (length (now wires) ≡ 10240) × (length (now plan) ≡ 7168)) }
     ensures { λ N r. ⌜ PlanLaid N (now (plan .exit)) (r .entries) (r .total) ⌝ }
 {
     fill(plan, 65535);
-    let mut wires = [65535u16; WIRES];
+    fill(wires, 65535);
     let mut copied = [0u16; 3072];
-    enter_wires(file, net, timing, &mut wires);
-    copied_words(file, net, timing, start, &wires, &mut copied);
+    enter_wires(file, net, timing, wires);
+    copied_words(file, net, timing, start, wires, &mut copied);
     // No clock of a wire is asked for any more: the links take their place.
-    link_wires(&mut wires, 3 * node_count(file, net));
-    let entries = place_entries(file, net, &wires, &copied, plan);
+    link_wires(wires, 3 * node_count(file, net));
+    let entries = place_entries(file, net, wires, &copied, plan);
     if 1024 < entries {
         return Plan {
             entries,
             total: entries,
         };
     }
-    let total = lay_wires(file, net, timing, &wires, &copied, entries, plan);
+    let total = lay_wires(file, net, timing, wires, &copied, entries, plan);
     Plan { entries, total }
-}
-
-// The reset words of the planned nodes.
-pub fn reset_words(
-    file: &[u8],
-    net: &[u16],
-    timing: &[u16],
-    start: &[u16],
-    plan: &[u16],
-    made: Plan,
-    words: &mut [u16],
-)
-    ghost { Net }
-    requires { λ N. opened 𝓤 (now file) (now net) N (Timed N (now timing) × (length (now timing) ≡ 3072) × Inside N × Complete inClock N (orderOf (now net))
-        × WordsAt N 0 (now start) × (length (now start) ≡ 1024) × (length (now plan) ≡ 7168) × (length (now words) ≡ 1024)
-        × PlanLaid N (now plan) (made .entries) (made .total) × (made .total ≤ 1024)) }
-    ensures { λ N _. ⌜ Planned N (ownersIn (now (plan .entry))) (now (words .exit)) (sourcesIn (now (plan .entry))) (made .entries) (made .total) ⌝ }
-{
-    copy(&plan[WORDS..LATE], words);
-    first_words(
-        file,
-        net,
-        &timing[ROOTS..PASSES],
-        &timing[PASSES..TIMING],
-        start,
-        &plan[LATE..FIRSTS],
-        &plan[OWNERS..WORDS],
-        words,
-    );
 }

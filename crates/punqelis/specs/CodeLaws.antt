@@ -1,5 +1,5 @@
--- An accepted length is below 65,536, so a C host tells the two cases apart. Assumes nothing.
-use mathlib.Core.Path.{_≡_}
+-- An accepted length is below 65,536, so a C host tells the two cases apart; and what a preview is to it, number by number. Assumes nothing.
+use mathlib.Core.Path.{_≡_, sym, ap, _∙_}
 use mathlib.Core.List.{List}
 use Prim.Native.Nat.{ℕ, _≤_}
 use native.Mathlib.Omega.{arith}
@@ -12,6 +12,11 @@ use Rattle.netlist.specs.declared.Answer.{Answer}
 use Rattle.netlist.specs.declared.Answer.the-variants.{Accepted, Refused}
 use Rattle.netlist.specs.declared.Verdict.{Verdict}
 use Rattle.netlist.specs.declared.Verdict.the-variants.{Fine, Refuses}
+use Rattle.retiming.specs.declared.Size.{Size}
+use Rattle.retiming.specs.declared.Preview.{Preview}
+use Rattle.retiming.specs.declared.Preview.the-variants.{Fits}
+use Rattle.retiming.specs.declared.Preview.the-variants as preview
+use Rattle.punqelis.specs.Code.{asNumber, asNumbers}
 
 -- the answer's length is at most so much
 pub data LengthWithin (b : ℕ) : Answer → Type 0 where
@@ -32,3 +37,13 @@ of-scan s (found ts ns) e = of-verdict (readerVerdict (netIn s ts ns)) (length s
 pub check-within : (s : List ℕ) → LengthWithin 65535 (checkAnswer s)
 unfolding checkAnswer fileVerdict decode
 check-within s = of-scan s (scan s) (λ i. scan s)
+
+-- ---- the numbers of a preview, one by one
+
+module _ {r : Preview} where
+  pub fits-numbers : {z : Size} {a c g m : ℕ} → r ≡ Fits z → a ≡ z .length → c ≡ z .clocked → g ≡ z .registers → m ≡ z .lead
+      → record { answer = a; «clocked_roms» = c; registers = g; «largest_lead» = m } ≡ asNumbers r
+  fits-numbers q e f g h = let x : _ ≡ asNumbers (Fits _) = λ i. record { answer = e i; «clocked_roms» = f i; registers = g i; «largest_lead» = h i } in x ∙ sym (ap asNumbers q)
+
+  pub refused-numbers : {k p a : ℕ} → r ≡ preview.Refused k p → a ≡ asNumber (Refused k p) → record { answer = a; «clocked_roms» = 0; registers = 0; «largest_lead» = 0 } ≡ asNumbers r
+  refused-numbers q e = ap (λ (a : ℕ). record { answer = a; «clocked_roms» = 0; registers = 0; «largest_lead» = 0 }) e ∙ sym (ap asNumbers q)

@@ -1,6 +1,8 @@
 // The exports for C hosts: include/punqelis.h declares them. A slice is a pointer and a length; the answer is one number.
 use checks::check_file;
 use netlist::Answer;
+use preview::preview_file;
+use retiming::Preview;
 use rewriter::rewrite_file;
 use run::reset_state;
 use run::run_clock;
@@ -9,8 +11,18 @@ ghost use Prim.Native.Nat.{_≤_};
 ghost use Rattle.netlist.specs.File.{checkAnswer};
 ghost use Rattle.behaviour.specs.Service.{resetFile, runFile};
 ghost use Rattle.retiming.specs.FileRewrite.{rewriteFile};
-ghost use Rattle.punqelis.specs.Code.{asNumber};
+ghost use Rattle.retiming.specs.Preview.{previewFile};
+ghost use Rattle.punqelis.specs.Code.{answerOf, asNumber, asNumbers};
 ghost use Rattle.punqelis.specs.CodeLaws.{LengthWithin};
+
+// The header's struct punqelis_size.
+#[repr(C)]
+pub struct PunqelisSize {
+    pub answer: u32,
+    pub clocked_roms: u32,
+    pub registers: u32,
+    pub largest_lead: u32,
+}
 
 fn wide8(x: u8) -> u32
     ensures { λ r. ⌜ (r ≡ x) × (r ≤ 255) ⌝ }
@@ -32,6 +44,27 @@ fn code(a: Answer) -> u32
     match a {
         Answer::Accepted(n) => n as u32,
         Answer::Refused(number, place) => wide8(number) * 65536 + wide16(place),
+    }
+}
+
+// The numbers of a preview.
+fn numbers(p: Preview) -> PunqelisSize
+    requires { ⌜ LengthWithin 65535 (answerOf p) ⌝ }
+    ensures { λ r. ⌜ r ≡ asNumbers p ⌝ }
+{
+    match p {
+        Preview::Fits(size) => PunqelisSize {
+            answer: code(Answer::Accepted(size.length)),
+            clocked_roms: wide16(size.clocked),
+            registers: wide16(size.registers),
+            largest_lead: wide16(size.lead),
+        },
+        Preview::Refused(number, place) => PunqelisSize {
+            answer: code(Answer::Refused(number, place)),
+            clocked_roms: 0,
+            registers: 0,
+            largest_lead: 0,
+        },
     }
 }
 
@@ -74,4 +107,12 @@ pub extern "C" fn punqelis_rewrite(file: &[u8], out: &mut [u8]) -> u32
         × (now (out .exit) ≡ rewriteFile (now (file .entry)) (now (out .entry)) .out) ⌝ }
 {
     code(rewrite_file(file, out))
+}
+
+// What rewriting a file would give, and nothing is written: the new file's size, or the refusal (1 to 13).
+#[no_mangle]
+pub extern "C" fn punqelis_preview(file: &[u8]) -> PunqelisSize
+    ensures { λ r. ⌜ r ≡ asNumbers (previewFile (now (file .entry))) ⌝ }
+{
+    numbers(preview_file(file))
 }

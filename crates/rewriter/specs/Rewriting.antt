@@ -1,61 +1,29 @@
--- The rewriting of a file that the reader takes, check by check. Assumes nothing.
+-- The rewriting of a file whose rewritten netlist is laid as a circuit. Assumes nothing.
 use mathlib.Core.Path.{_≡_, sym, ap, _∙_}
 use mathlib.Core.Logic.{⊎-elim}
 use mathlib.Core.Bool.{true, false}
-use mathlib.Core.List.{List, [], _∷_, _++_}
+use mathlib.Core.List.{List, _++_}
 use Prim.Native.Nat.{ℕ, _≤_, _<_, zero-le}
 use native.Mathlib.Omega.{arith}
-use lib.ListN.{length, getD, take, drop, length-map}
-use lib.Seq.{getD-take}
-use lib.Dec.{ltb, lit<}
+use lib.ListN.{length, drop}
+use lib.Dec.{ltb}
 use borrow.Author.Tests.{lt-ltb, le-ltb, ltb-false}
 use Rattle.lists.specs.BelowLaws.{true-or-false}
-use Rattle.netlist.specs.Net.{Net, size}
-use Rattle.netlist.specs.Checks.{WellFormed}
-use Rattle.netlist.specs.Verdict.{ofWhole, verdict, onward}
-use Rattle.netlist.specs.VerdictLaws.{fine-clear}
-use Rattle.netlist.specs.File.{Decoded, decode, decodedNet, judged, fileVerdict, encode}
+use Rattle.netlist.specs.Net.{Net}
+use Rattle.netlist.specs.File.{Decoded, decode, decodedNet, encode}
 use Rattle.netlist.specs.declared.Answer.{Answer}
 use Rattle.netlist.specs.declared.Answer.the-variants.{Accepted, Refused}
 use Rattle.netlist.specs.declared.Verdict.{Verdict}
 use Rattle.netlist.specs.declared.Verdict.the-variants.{Fine, Refuses}
 use Rattle.circuit.specs.Circuit.{netOf}
-use Rattle.checks.specs.Open.{Open}
-use Rattle.behaviour.specs.Run.{zeroWord}
-use Rattle.retiming.specs.Leads.{closedDebt}
-use Rattle.retiming.specs.Rewrite.{places, nodeOf, timing, rewrittenWith, rewritten}
-use Rattle.retiming.specs.Debt.{grown, debtVerdict}
-use Rattle.retiming.specs.FileRewrite.{rewriterVerdict, rewrittenOf, rewrittenFile, Rewrote, written, writtenAfter, rewriteFile}
-use Rattle.leads.specs.Debts.{debtsVerdict, debts-first}
-use Rattle.leads.specs.Settled.{LeadsIn}
-use Rattle.wires.specs.Traced.{rootsIn, passesIn, AllTraced}
-use Rattle.wiring.specs.Wiring.{Timed}
-
--- ---- 13
-
-unfoldable pub grownVerdict : Net → Verdict
-grownVerdict N = verdict (ofWhole 13 (λ v. grown (rewritten N)) ∷ [])
-
-module _ (N : Net) where
-  new-size : size (rewritten N) ≡ length (places N (timing N) (zeroWord N))
-  unfolding rewritten rewrittenWith
-  new-size = length-map (places N (timing N) (zeroWord N)) (nodeOf N (timing N) (zeroWord N))
-
-  pub says-13 : 1024 < length (places N (timing N) (zeroWord N)) → Refuses 13 65535 ≡ grownVerdict N
-  unfolding grownVerdict verdict grown
-  says-13 h = let g : ltb 1024 (size (rewritten N)) ≡ true = lt-ltb 1024 (size (rewritten N)) (omega (arith, new-size)) in sym (rw (g, verdict))
-
-  pub says-fine : length (places N (timing N) (zeroWord N)) ≤ 1024 → Fine ≡ grownVerdict N
-  unfolding grownVerdict verdict grown
-  says-fine h = let g : ltb 1024 (size (rewritten N)) ≡ false = le-ltb 1024 (size (rewritten N)) (omega (arith, new-size)) in sym (rw (g, verdict))
-
--- ---- what the rewriter leaves of a netlist that the reader takes, and of one that 11 and 12 let pass
-
-abbrev pub debtlessOutcome : Net → List ℕ → Rewrote
-debtlessOutcome N out = writtenAfter (grownVerdict N) (encode (rewritten N)) out
-
-abbrev pub netOutcome : Net → List ℕ → Rewrote
-netOutcome N out = writtenAfter (debtVerdict N) (encode (rewritten N)) out
+use Rattle.retiming.specs.Rewrite.{rewritten}
+use Rattle.retiming.specs.FileRewrite.{rewriterVerdict, IsAccepted, rewrittenOf, rewrittenFile, Rewrote, written, writtenAfter, rewriteFile}
+use Rattle.retiming.specs.RewrittenFile.{past-13}
+use Rattle.retiming.specs.PreviewLaws.{refused-written}
+use Rattle.retime.specs.declared.Retimed.{Retimed}
+use Rattle.retime.specs.declared.Retimed.the-variants.{Laid}
+use Rattle.retime.specs.declared.Retimed.the-variants as retimed
+use Rattle.retime.specs.Laying.{LaysFile, laid-accepted, laid-refused}
 
 -- ---- answer and output, as they are stated
 
@@ -71,48 +39,23 @@ pub long-enough : (b out : List ℕ) → length b ≤ length out → record { an
 unfolding written
 long-enough b out h = sym (rw (le-ltb (length out) (length b) h))
 
-module _ (N : Net) (out : List ℕ) where
-  pub debtless-13 : 1024 < length (places N (timing N) (zeroWord N)) → record { answer = Refused 13 65535; out = out } ≡ debtlessOutcome N out
-  debtless-13 h = ap (λ (v : Verdict). writtenAfter v (encode (rewritten N)) out) (says-13 N h)
+-- ---- by what is laid
 
-  pub debtless-written : length (places N (timing N) (zeroWord N)) ≤ 1024 → written (encode (rewritten N)) out ≡ debtlessOutcome N out
-  debtless-written h = ap (λ (v : Verdict). writtenAfter v (encode (rewritten N)) out) (says-fine N h)
+accepted-file : (s : List ℕ) → IsAccepted s → encode (rewritten (decodedNet (decode s))) ≡ rewrittenFile s
+unfolding rewrittenFile
+accepted-file s a = let reads = past-13 s a .reads in ap (λ (d : Decoded). encode (rewritten (decodedNet d))) reads ∙ sym (ap rewrittenOf reads)
 
-  onward-verdict : {v : Verdict} → v ≡ debtsVerdict N → onward v (grownVerdict N) ≡ debtVerdict N
-  unfolding grownVerdict
-  onward-verdict e = ap (λ (w : Verdict). onward w (grownVerdict N)) e ∙ sym (debts-first N)
+module _ {s l : List ℕ} {r : Retimed} (t : LaysFile s l r) (out : List ℕ) where
+  pub laid-none : {k p : ℕ} → r ≡ retimed.Refused k p → record { answer = Refused k p; out = out } ≡ rewriteFile s out
+  laid-none q = sym (refused-written s (laid-refused t q) out)
 
-  pub net-debt : {v : Verdict} {k p : ℕ} → v ≡ debtsVerdict N → v ≡ Refuses k p → record { answer = Refused k p; out = out } ≡ netOutcome N out
-  net-debt e q = ap (λ (w : Verdict). writtenAfter w (encode (rewritten N)) out) (sym (ap (λ (w : Verdict). onward w (grownVerdict N)) q) ∙ onward-verdict e)
-
-  pub net-debtless : {v : Verdict} → v ≡ debtsVerdict N → v ≡ Fine → debtlessOutcome N out ≡ netOutcome N out
-  net-debtless e q = ap (λ (w : Verdict). writtenAfter w (encode (rewritten N)) out) (sym (ap (λ (w : Verdict). onward w (grownVerdict N)) q) ∙ onward-verdict e)
-
-no-closed-debt : (N : Net) {v : Verdict} → v ≡ debtsVerdict N → v ≡ Fine → closedDebt N ≡ false
-unfolding debtsVerdict
-no-closed-debt N e q = fine-clear _ (sym e ∙ q) .0 0 (lit< tt)
-
--- the leads stay where the roots are found
-pub now-timed : {N : Net} (leads timing : List ℕ) → WellFormed N → {v : Verdict} → v ≡ debtsVerdict N → v ≡ Fine → (v ≡ Fine → LeadsIn N leads) → take 1024 timing ≡ take 1024 leads
-    → AllTraced N (rootsIn timing) (passesIn timing) → Timed N timing
-now-timed {N} leads timing formed e q found same traced = record {
-  formed = formed;
-  debtless = no-closed-debt N e q;
-  leads-in = λ v h. let l : v < 1024 = omega (arith, formed .fields .bounds .nodes) in sym (getD-take 1024 timing v 0 l) ∙ ap (λ (y : List ℕ). getD y v 0) same ∙ getD-take 1024 leads v 0 l ∙ found q v h;
-  traced = traced;
-}
-
--- ---- the file
-
-pub file-refused : (s out : List ℕ) {k p : ℕ} → fileVerdict s ≡ Refuses k p → record { answer = Refused k p; out = out } ≡ rewriteFile s out
-unfolding rewriteFile rewriterVerdict
-file-refused s out e = sym (ap (λ (v : Verdict). writtenAfter (onward v (debtVerdict (decodedNet (decode s)))) (rewrittenFile s) out) e)
-
-pub file-taken : {s l : List ℕ} → Open s l → (out : List ℕ) → netOutcome (netOf s l) out ≡ rewriteFile s out
-unfolding rewriteFile rewriterVerdict rewrittenFile fileVerdict
-file-taken {s} {l} o out =
-    sym (ap (λ (d : Decoded). writtenAfter (onward (judged d) (debtVerdict (decodedNet d))) (rewrittenOf d) out) (o .decodes)
-    ∙ ap (λ (v : Verdict). writtenAfter (onward v (debtVerdict (netOf s l))) (encode (rewritten (netOf s l))) out) (o .fine))
+  pub laid-written : {m : ℕ} → r ≡ Laid m → written (encode (netOf s l)) out ≡ rewriteFile s out
+  unfolding rewriteFile
+  laid-written q =
+      let (accepted, lead, laid) = laid-accepted t q in
+      ap (λ (M : Net). written (encode M) out) (laid .0)
+      ∙ ap (λ (b : List ℕ). written b out) (accepted-file s accepted)
+      ∙ sym (ap (λ (v : Verdict). writtenAfter v (rewrittenFile s) out) accepted)
 
 -- ---- an accepted length is within the output
 

@@ -1,17 +1,15 @@
--- What opening tells, and the rewriting of the netlist.
+-- The refusal, or what is laid, written.
 use mathlib.Core.Path.{_∙_}
-use native.Mathlib.Omega.{arith}
-use Rattle.checks.specs.Opens.{opened-refused, opened-fine, open-formed, open-inside}
-use Rattle.rewriter.specs.Rewriting.{rewrote, file-refused, file-taken}
+use Rattle.rewriter.specs.Rewriting.{rewrote, laid-none, laid-written}
 use borrow.Author.Needs.{needs}
 use Rattle.rewriter.proofs.rewrite_file.Statement.{statement}
 use Rattle.rewriter.proofs.rewrite_file.Tie as tie
 
-slice-aggregate-open-file : tie.Need-slice-aggregate-open-file
-slice-aggregate-open-file c = search needs
+slice-aggregate-retime-file : tie.Need-slice-aggregate-retime-file
+slice-aggregate-retime-file c = search needs
 
-open-file-requires : tie.Need-open-file-requires
-open-file-requires c κs = search needs
+retime-file-requires : tie.Need-retime-file-requires
+retime-file-requires c κs = search needs
 
 enum-known-number : tie.Need-enum-known-number
 enum-known-number c = search needs
@@ -19,31 +17,33 @@ enum-known-number c = search needs
 enum-told : tie.Need-enum-told
 enum-told c = search needs
 
-slice-aggregate-rewrite-opened : tie.Need-slice-aggregate-rewrite-opened
-slice-aggregate-rewrite-opened c = search needs
+slice-aggregate-write-fitting : tie.Need-slice-aggregate-write-fitting
+slice-aggregate-write-fitting c = search needs
 
-rewrite-opened-requires : tie.Need-rewrite-opened-requires
-rewrite-opened-requires c κs = let o = opened-fine (c .before .before .before .before .before .open-file .ensures) (c .before .before .enum-told .given .1) in (o .circuit, (open-formed (λ i. omega (arith, c .before .before .before .before .before .before .before .before .shared-slice-known .given i)) o, open-inside (λ i. omega (arith, c .before .before .before .before .before .before .before .before .shared-slice-known .given i)) o, o .ordered))
+write-fitting-requires : tie.Need-write-fitting-requires
+write-fitting-requires c κs = c .before .before .before .before .before .retime-file .ensures .1 _ (c .before .before .enum-told .given .1) .1
 
 returns : tie.Need-returns
-returns c = rewrote (file-refused _ _ (opened-refused (c .before .before .before .before .open-file .ensures) (c .before .number .given .1)))
+returns c = rewrote (laid-none (c .before .before .before .before .retime-file .ensures) (c .before .before .before .before .before .before .before .before .args .out .now) (c .before .number .given .1))
 
 same-length : tie.Need-same-length
 same-length c = search needs
 
 returns-2 : tie.Need-returns-2
-returns-2 c = let a = c .before .before .before .before .before .before .before .before .before .before .before .before .args in let r = rewrote (file-taken (opened-fine (c .before .before .before .before .before .before .before .before .open-file .ensures) (c .before .before .before .before .before .enum-told .given .1)) (a .out .now)) in (c .before .before .rewrite-opened .ensures .0 ∙ r .0, c .before .before .rewrite-opened .ensures .1 ∙ r .1)
+returns-2 c =
+    let r = rewrote (laid-written (c .before .before .before .before .before .before .before .before .retime-file .ensures) (c .before .before .before .before .before .before .before .before .before .before .before .before .args .out .now) (c .before .before .before .before .before .enum-told .given .1)) in
+    (c .before .before .write-fitting .ensures .0 ∙ r .0, c .before .before .write-fitting .ensures .1 ∙ r .1)
 
 pub rewrite-file-spec : {M : Type 1} → statement M
 rewrite-file-spec =
     tie.close
     (tie.spec
-    slice-aggregate-open-file
-    open-file-requires
+    slice-aggregate-retime-file
+    retime-file-requires
     enum-known-number
     enum-told
-    slice-aggregate-rewrite-opened
-    rewrite-opened-requires
+    slice-aggregate-write-fitting
+    write-fitting-requires
     returns
     same-length
     returns-2)

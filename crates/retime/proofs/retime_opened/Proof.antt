@@ -3,10 +3,10 @@ use mathlib.Core.Path.{_∙_}
 use Prim.Native.Nat.{ℕ}
 use lib.ListN.{length-replicate}
 use Rattle.circuit.specs.Circuit.{netOf}
-use Rattle.rewriter.specs.Rewriting.{rewrote, net-debt, net-debtless, now-timed}
+use Rattle.retime.specs.Laying.{lays-none, lays-as, by-debts, now-timed}
 use borrow.Author.Needs.{needs}
-use Rattle.rewriter.proofs.rewrite_opened.Statement.{statement}
-use Rattle.rewriter.proofs.rewrite_opened.Tie as tie
+use Rattle.retime.proofs.retime_opened.Statement.{statement}
+use Rattle.retime.proofs.retime_opened.Tie as tie
 
 slice-aggregate-find-leads : tie.Need-slice-aggregate-find-leads
 slice-aggregate-find-leads c = search needs
@@ -26,20 +26,21 @@ slice-aggregate-find-roots c = search needs
 find-roots-requires : tie.Need-find-roots-requires
 find-roots-requires c κs = search needs
 
-slice-aggregate-rewrite-timed : tie.Need-slice-aggregate-rewrite-timed
-slice-aggregate-rewrite-timed c = search needs
+slice-aggregate-retime-timed : tie.Need-slice-aggregate-retime-timed
+slice-aggregate-retime-timed c = search needs
 
-rewrite-timed-requires : tie.Need-rewrite-timed-requires
-rewrite-timed-requires c κs =
+retime-timed-requires : tie.Need-retime-timed-requires
+retime-timed-requires c κs =
     let p = c .before .before .before .before .before .before .before .before .before .before .before .before .before .pre in
     let l = c .before .before .before .before .before .before .before .before .find-leads in
     let r = c .before .before .before .find-roots in
-    (p .0, (now-timed (l .last .1 .1 .0) (r .last .1 .1 .0) (p .1 .0) (l .ensures .0) (c .before .before .before .before .before .enum-told .given .1) (l .ensures .1) (r .ensures .1) (r .ensures .0), r .kept .1 .1 .0 ∙ l .kept .1 .1 .0 ∙ length-replicate {A = ℕ} 3072 0, p .1 .1, p .1 .2))
+    (p .0, (now-timed (l .last .1 .1 .0) (r .last .1 .1 .0) (p .1 .0) (l .ensures .0) (c .before .before .before .before .before .enum-told .given .1) (l .ensures .1) (r .ensures .1) (r .ensures .0), r .kept .1 .1 .0 ∙ l .kept .1 .1 .0 ∙ length-replicate {A = ℕ} 3072 0, p .1 .1, p .1 .2, p .1 .3))
 
 returns : tie.Need-returns
 returns c =
     let a = c .before .before .before .before .before .before .before .before .before .args in
-    rewrote (net-debt (netOf (a .file .now) (a .net .now)) (a .out .now) (c .before .before .before .before .find-leads .ensures .0) (c .before .number .given .1))
+    let N = netOf (a .file .now) (a .net .now) in
+    lays-none _ _ N (by-debts N (c .before .before .before .before .find-leads .ensures .0) (c .before .number .given .1))
 
 same-length : tie.Need-same-length
 same-length c = search needs
@@ -47,11 +48,11 @@ same-length c = search needs
 returns-2 : tie.Need-returns-2
 returns-2 c =
     let a = c .before .before .before .before .before .before .before .before .before .before .before .before .before .before .before .before .args in
-    let r = rewrote (net-debtless (netOf (a .file .now) (a .net .now)) (a .out .now) (c .before .before .before .before .before .before .before .before .before .before .before .find-leads .ensures .0) (c .before .before .before .before .before .before .before .before .enum-told .given .1)) in
-    (c .before .before .rewrite-timed .ensures .0 ∙ r .0, c .before .before .rewrite-timed .ensures .1 ∙ r .1)
+    let N = netOf (a .file .now) (a .net .now) in
+    lays-as _ _ N (by-debts N (c .before .before .before .before .before .before .before .before .before .before .before .find-leads .ensures .0) (c .before .before .before .before .before .before .before .before .enum-told .given .1)) (c .before .before .retime-timed .ensures)
 
-pub rewrite-opened-spec : {M : Type 1} → statement M
-rewrite-opened-spec =
+pub retime-opened-spec : {M : Type 1} → statement M
+retime-opened-spec =
     tie.close
     (tie.spec
     slice-aggregate-find-leads
@@ -60,8 +61,8 @@ rewrite-opened-spec =
     enum-told
     slice-aggregate-find-roots
     find-roots-requires
-    slice-aggregate-rewrite-timed
-    rewrite-timed-requires
+    slice-aggregate-retime-timed
+    retime-timed-requires
     returns
     same-length
     returns-2)

@@ -2,9 +2,9 @@
 use native.Mathlib.Omega.{arith}
 use borrow.Author.Needs.{needs}
 use Rattle.lists.specs.Sections.{section-length}
 use Rattle.plan.specs.PlanLaws.{late-of-nodes, reset-planned}
-use Rattle.plan.proofs.reset_words.Statement.{statement}
-use Rattle.plan.proofs.reset_words.Tie as tie
+use Rattle.layout.proofs.reset.reset_words.Statement.{statement}
+use Rattle.layout.proofs.reset.reset_words.Tie as tie
 
 sub-copy : tie.Need-sub-copy
 sub-copy c = search needs

@@ -1,0 +1,100 @@
+-- 13 by the plan, else laid.
+use mathlib.Core.Path.{sym, _∙_}
+use Prim.Native.Nat.{ℕ}
+use native.Mathlib.Omega.{arith}
+use lib.ListN.{length-replicate}
+use lib.Seq.{length-front, length-take-le}
+use Rattle.netlist.specs.VerdictLaws.{refuses-not}
+use Rattle.circuit.specs.Circuit.{netOf}
+use Rattle.retime.specs.Laying.{says-13, says-fine}
+use borrow.Author.Needs.{needs}
+use Rattle.retime.proofs.lay_timed.Statement.{statement}
+use Rattle.retime.proofs.lay_timed.Tie as tie
+
+slice-aggregate-first-clock : tie.Need-slice-aggregate-first-clock
+slice-aggregate-first-clock c = search needs
+
+first-clock-requires : tie.Need-first-clock-requires
+first-clock-requires c κs = search needs
+
+slice-aggregate-make-plan : tie.Need-slice-aggregate-make-plan
+slice-aggregate-make-plan c = search needs
+
+slice-relend-prefix-make-plan : tie.Need-slice-relend-prefix-make-plan
+slice-relend-prefix-make-plan c = search needs
+
+slice-aggregate-make-plan-2 : tie.Need-slice-aggregate-make-plan-2
+slice-aggregate-make-plan-2 c = sym (length-take-le 10240 (c .before .before .before .before .before .before .before .before .before .args .new .now) (omega (arith, c .before .before .before .before .before .before .before .before .before .pre .1 .4)))
+
+slice-aggregate-make-plan-3 : tie.Need-slice-aggregate-make-plan-3
+slice-aggregate-make-plan-3 c = search needs
+
+make-plan-requires : tie.Need-make-plan-requires
+make-plan-requires c κs =
+    let p = c .before .before .before .before .before .before .before .before .before .before .pre in
+    let f = c .before .before .before .before .first-clock in
+    (p .0, (p .1 .0, p .1 .1, p .1 .2, p .1 .3, f .ensures, f .kept .1 .1 .0 ∙ length-replicate {A = ℕ} 1024 0, length-take-le 10240 (c .before .before .before .before .before .before .before .before .before .before .args .new .now) (omega (arith, p .1 .4)), length-replicate {A = ℕ} 7168 0))
+
+same-length : tie.Need-same-length
+same-length c = search needs
+
+returns : tie.Need-returns
+returns c =
+    let a = c .before .before .before .before .before .before .before .before .before .before .before .before .before .before .before .args in
+    (says-13 (netOf (a .file .now) (a .net .now)) (c .before .before .before .before .make-plan .ensures .over (c .if1 .taken)), λ e. absurd (refuses-not e))
+
+slice-aggregate-reset-words : tie.Need-slice-aggregate-reset-words
+slice-aggregate-reset-words c = search needs
+
+slice-aggregate-reset-words-2 : tie.Need-slice-aggregate-reset-words-2
+slice-aggregate-reset-words-2 c = search needs
+
+slice-aggregate-reset-words-3 : tie.Need-slice-aggregate-reset-words-3
+slice-aggregate-reset-words-3 c = search needs
+
+reset-words-requires : tie.Need-reset-words-requires
+reset-words-requires c κs = search needs
+
+slice-aggregate-lay-circuit : tie.Need-slice-aggregate-lay-circuit
+slice-aggregate-lay-circuit c = search needs
+
+slice-aggregate-lay-circuit-2 : tie.Need-slice-aggregate-lay-circuit-2
+slice-aggregate-lay-circuit-2 c = search needs
+
+lay-circuit-requires : tie.Need-lay-circuit-requires
+lay-circuit-requires c κs =
+    let p = c .before .before .before .before .before .before .before .before .before .before .before .before .before .before .before .before .before .before .before .before .before .before .before .pre in
+    let m = c .before .before .before .before .before .before .before .before .before .before .before .before .make-plan in
+    let n = length-front (c .before .before .before .before .before .before .before .before .before .before .before .before .before .before .before .before .before .before .before .before .before .before .before .args .new .now) (m .last .1 .1 .1 .1 .0) 10240 (m .kept .1 .1 .1 .1 .0) in
+    (p .0, (c .before .before .before .before .reset-words .ensures, c .before .before .before .before .before .before .before .before .if1 .left, omega (arith, n, p .1 .4)))
+
+same-length-2 : tie.Need-same-length-2
+same-length-2 c = search needs
+
+returns-2 : tie.Need-returns-2
+returns-2 c =
+    let a = c .before .before .before .before .before .before .before .before .before .before .before .before .before .before .before .before .before .before .before .before .before .before .before .before .before .before .args in
+    (says-fine (netOf (a .file .now) (a .net .now)) (omega (arith, c .before .before .before .before .before .before .before .reset-words .ensures .count, c .before .before .before .before .before .before .before .before .before .before .before .if1 .left)), λ _. c .before .before .lay-circuit .ensures)
+
+pub lay-timed-spec : {M : Type 1} → statement M
+lay-timed-spec =
+    tie.close
+    (tie.spec
+    slice-aggregate-first-clock
+    first-clock-requires
+    slice-aggregate-make-plan
+    slice-relend-prefix-make-plan
+    slice-aggregate-make-plan-2
+    slice-aggregate-make-plan-3
+    make-plan-requires
+    same-length
+    returns
+    slice-aggregate-reset-words
+    slice-aggregate-reset-words-2
+    slice-aggregate-reset-words-3
+    reset-words-requires
+    slice-aggregate-lay-circuit
+    slice-aggregate-lay-circuit-2
+    lay-circuit-requires
+    same-length-2
+    returns-2)

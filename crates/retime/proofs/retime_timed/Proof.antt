@@ -1,0 +1,52 @@
+-- 13, or laid; the leads are those that were found.
+use mathlib.Core.Path.{sym, ap, _∙_}
+use Rattle.netlist.specs.declared.Verdict.{Verdict}
+use Rattle.circuit.specs.Circuit.{netOf}
+use Rattle.retime.specs.Laying.{retimedBy, lays-none, lays}
+use borrow.Author.Needs.{needs}
+use Rattle.retime.proofs.retime_timed.Statement.{statement}
+use Rattle.retime.proofs.retime_timed.Tie as tie
+
+lay-timed-requires : tie.Need-lay-timed-requires
+lay-timed-requires c κs = search needs
+
+enum-known-number : tie.Need-enum-known-number
+enum-known-number c = search needs
+
+enum-told : tie.Need-enum-told
+enum-told c = search needs
+
+largest-lead-requires : tie.Need-largest-lead-requires
+largest-lead-requires c κs = let p = c .before .before .before .before .before .before .before .before .before .before .pre in (p .0, (p .1 .0 .formed .sourced, p .1 .0 .debtless, p .1 .0 .leads-in))
+
+same-length : tie.Need-same-length
+same-length c = search needs
+
+returns : tie.Need-returns
+returns c =
+    let a = c .before .before .before .before .before .before .before .before .before .before .before .args in
+    let N = netOf (a .file .now) (a .net .now) in
+    lays-none _ _ N (ap (λ (v : Verdict). retimedBy v N) (sym (c .before .number .given .1) ∙ c .before .before .before .before .before .lay-timed .ensures .0))
+
+same-length-2 : tie.Need-same-length-2
+same-length-2 c = search needs
+
+returns-2 : tie.Need-returns-2
+returns-2 c =
+    let a = c .before .before .before .before .before .before .before .before .before .before .before .args in
+    let l = c .before .before .before .before .before .lay-timed in
+    let fine = c .before .enum-told .given .1 in
+    lays _ _ (netOf (a .file .now) (a .net .now)) (l .ensures .0) fine (l .ensures .1 fine) (c .largest-lead .ensures)
+
+pub retime-timed-spec : {M : Type 1} → statement M
+retime-timed-spec =
+    tie.close
+    (tie.spec
+    lay-timed-requires
+    enum-known-number
+    enum-told
+    largest-lead-requires
+    same-length
+    returns
+    same-length-2
+    returns-2)
