@@ -1,4 +1,4 @@
-/* Rewrites a small netlist with an asynchronous ROM into one with a clocked ROM, and runs both side by side for five clocks. */
+/* Previews and rewrites a small netlist with an asynchronous ROM into one with a clocked ROM, and runs both side by side for five clocks. */
 #include <stdio.h>
 #include <string.h>
 
@@ -45,13 +45,27 @@ int main(void)
     uint8_t old_state[2]; /* the register */
     uint8_t new_state[6]; /* the clocked ROM, and a register for each reader of the add */
     const uint8_t no_inputs[1] = {0};
-    uint32_t new_len = punqelis_rewrite(old_file, sizeof old_file, new_file, sizeof new_file);
+    const struct punqelis_size size = punqelis_preview(old_file, sizeof old_file);
+    uint32_t new_len;
     size_t clock;
 
+    if (refused("preview", size.answer))
+        return 1;
+    printf("preview: clocked ROMs %u, registers %u, bytes %u, largest lead %u\n",
+           (unsigned)size.clocked_roms, (unsigned)size.registers, (unsigned)size.answer,
+           (unsigned)size.largest_lead);
+    if (size.clocked_roms != 1 || size.registers != 2 || size.answer != sizeof expected_file
+        || size.largest_lead != 1) {
+        printf("not the expected size\n");
+        return 1;
+    }
+
+    /* As many bytes as the preview says are enough, and all of them are written. */
+    new_len = punqelis_rewrite(old_file, sizeof old_file, new_file, size.answer);
     if (refused("rewrite", new_len))
         return 1;
     printf("rewritten: %u bytes into %u\n", (unsigned)sizeof old_file, (unsigned)new_len);
-    if (new_len != sizeof expected_file || memcmp(new_file, expected_file, new_len) != 0) {
+    if (new_len != size.answer || memcmp(new_file, expected_file, new_len) != 0) {
         printf("not the expected file\n");
         return 1;
     }

@@ -1,10 +1,10 @@
 /*
- * Punqelis: checks, runs and rewrites netlist files.
+ * Punqelis: checks, runs, previews and rewrites netlist files.
  *
  * A netlist file describes a clocked circuit of ports, registers, ROMs and gates.
  * Link with libpunqelis.a, which `rt staticlib punqelis` writes to target/staticlib/.
  *
- * Every function answers one number:
+ * Every function answers one number, the preview three more beside it:
  *   below 65,536   accepted, and the number is a length in bytes (see each function);
  *   from 65,536 on refused, and the number is the refusal's number times 65,536 plus its place.
  * PUNQELIS_IS_REFUSED and the two macros after it take an answer apart.
@@ -35,7 +35,8 @@
  *   11 closed debt  a loop with more asynchronous ROMs than registers     place 65,535
  *   12 port debt    an input port's words would be needed too early       lowest such port
  *   13 grown        the rewritten netlist has over 1,024 nodes            place 65,535
- *   14 out          the output is shorter than the rewritten file         place 65,535
+ *   14 out          the output is shorter than the rewritten file;        place 65,535
+ *                   the preview has no output, and never answers it
  *   15 words        inputs or outputs do not fit the file                 place 65,535
  *   16 state        the state does not fit the file                       place 65,535
  */
@@ -80,6 +81,20 @@ uint32_t punqelis_run(const uint8_t *file, size_t file_len,
  * of its nodes of kind 2 (register) and 4 (clocked ROM). */
 uint32_t punqelis_rewrite(const uint8_t *file, size_t file_len,
                           uint8_t *out, size_t out_len);
+
+/* How large a rewritten file is. Beside a refusal the numbers after answer are 0. */
+struct punqelis_size {
+    uint32_t answer;       /* the rewritten file's length, or the refusal */
+    uint32_t clocked_roms; /* its nodes of kind 4 */
+    uint32_t registers;    /* its nodes of kind 2; a clocked ROM's own register is none */
+    uint32_t largest_lead; /* how many clocks early a node of it runs, at most */
+};
+
+/* Previews a rewriting: what punqelis_rewrite would answer for the file into an output that is
+ * long enough, and how many memories and registers the new file would have. Writes nothing.
+ * Checks 1 to 10, then 11 to 13. An output of answer bytes is just enough for punqelis_rewrite.
+ * It takes as long as rewriting, less the writing. */
+struct punqelis_size punqelis_preview(const uint8_t *file, size_t file_len);
 
 #ifdef __cplusplus
 }

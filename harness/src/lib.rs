@@ -2,7 +2,8 @@
 //! and what it takes to hold the product against it: random netlists, test vectors, and the
 //! product's C interface.
 //!
-//! Lower layer: [`netlist`], [`format`] and [`checks`]. Above it: [`simulate`] and [`rewrite`].
+//! Lower layer: [`netlist`], [`format`] and [`checks`]. Above it: [`simulate`], [`rewrite`] and
+//! [`preview`].
 
 pub mod checks;
 pub mod design;
@@ -10,6 +11,7 @@ pub mod first_clocks;
 pub mod format;
 pub mod leads;
 pub mod netlist;
+pub mod preview;
 #[cfg(feature = "check")]
 pub mod product;
 pub mod random;
@@ -21,12 +23,15 @@ pub mod vectors;
 pub mod workloads;
 
 pub use checks::check;
+pub use preview::{preview, Size};
 pub use refusal::{Answer, Refusal};
 pub use rewrite::rewrite;
 pub use simulate::{reset, run};
 
 /// A service on a file: the check.
 pub type Check = fn(&[u8]) -> Answer;
+/// A service on a file that tells a size: the preview.
+pub type Preview = fn(&[u8]) -> Result<Size, Refusal>;
 /// A service on a file and lent bytes: the reset and the rewriter.
 pub type OnBytes = fn(&[u8], &mut [u8]) -> Answer;
 /// A service on a file, its state, inputs and outputs: the run.

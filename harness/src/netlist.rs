@@ -112,6 +112,11 @@ impl Table<'_> {
 }
 
 impl Netlist<'_> {
+    /// How many nodes are of the kind.
+    pub fn count(&self, kind: Kind) -> usize {
+        self.nodes.iter().filter(|node| node.kind == kind).count()
+    }
+
     /// The numbers of the nodes of some kinds. Every number is put down and then kept or not:
     /// kinds follow no pattern, and a branch on them would be predicted wrong.
     pub fn numbers(&self, chosen: impl Fn(Kind) -> bool) -> Vec<u16> {

@@ -1,6 +1,18 @@
 //! The product, through its C interface (`include/punqelis.h`).
 
+#[cfg(feature = "rewrite")]
+use crate::preview::Size;
 use crate::refusal::{Answer, Refusal};
+
+/// `struct punqelis_size`. Beside a refusal the other numbers are 0.
+#[cfg(feature = "rewrite")]
+#[repr(C)]
+struct AnsweredSize {
+    answer: u32,
+    clocked_roms: u32,
+    registers: u32,
+    largest_lead: u32,
+}
 
 extern "C" {
     fn punqelis_check(file: *const u8, file_len: usize) -> u32;
@@ -19,6 +31,8 @@ extern "C" {
     ) -> u32;
     #[cfg(feature = "rewrite")]
     fn punqelis_rewrite(file: *const u8, file_len: usize, out: *mut u8, out_len: usize) -> u32;
+    #[cfg(feature = "rewrite")]
+    fn punqelis_preview(file: *const u8, file_len: usize) -> AnsweredSize;
 }
 
 // Safety, for all calls below: each pointer and length belong to one slice that lives through
@@ -52,6 +66,25 @@ pub fn run(file: &[u8], state: &mut [u8], inputs: &[u8], outputs: &mut [u8]) -> 
 #[cfg(feature = "rewrite")]
 pub fn rewrite(file: &[u8], out: &mut [u8]) -> Answer {
     answer(unsafe { punqelis_rewrite(file.as_ptr(), file.len(), out.as_mut_ptr(), out.len()) })
+}
+
+#[cfg(feature = "rewrite")]
+pub fn preview(file: &[u8]) -> Result<Size, Refusal> {
+    let size = unsafe { punqelis_preview(file.as_ptr(), file.len()) };
+    let numbers = [size.clocked_roms, size.registers, size.largest_lead];
+    let [clocked_roms, registers, largest_lead] = numbers.map(|number| number as usize);
+    match answer(size.answer) {
+        Ok(length) => Ok(Size {
+            clocked_roms,
+            registers,
+            length,
+            largest_lead,
+        }),
+        Err(refusal) => {
+            assert_eq!(numbers, [0; 3], "beside {refusal}");
+            Err(refusal)
+        }
+    }
 }
 
 /// Takes the one number apart: a length, or a refusal's number times 65,536 plus its place.

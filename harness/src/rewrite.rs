@@ -9,17 +9,25 @@ use crate::refusal::{refuse, Answer, Refusal, GROWN, NOWHERE, OUT};
 
 /// Writes the rewritten file. Checks 1 to 14.
 pub fn rewrite(file: &[u8], out: &mut [u8]) -> Answer {
-    let rewritten = retimed(&checked(file)?)?;
-    let length = format::file_len(&rewritten);
+    let Retimed { netlist, .. } = retimed(&checked(file)?)?;
+    let length = format::file_len(&netlist);
     let Some(lent) = out.get_mut(..length) else {
         return refuse(OUT, NOWHERE);
     };
-    format::write_to(&rewritten, lent);
+    format::write_to(&netlist, lent);
     Ok(length)
 }
 
-/// The rewritten netlist. Checks 11 to 13.
-pub fn retimed<'a>(checked: &Checked<'a>) -> Result<Netlist<'a>, Refusal> {
+/// What becomes of a netlist.
+pub struct Retimed<'a> {
+    /// The lead of each of its nodes, 0 for registers.
+    pub leads: Vec<u16>,
+    /// The rewritten netlist.
+    pub netlist: Netlist<'a>,
+}
+
+/// The leads, and the netlist rewritten by them. Checks 11 to 13.
+pub fn retimed<'a>(checked: &Checked<'a>) -> Result<Retimed<'a>, Refusal> {
     let chains = chains(checked);
     let leads = leads(checked, &chains)?;
     let copies = Copies::new(&checked.netlist.nodes, &chains, &leads);
@@ -27,10 +35,11 @@ pub fn retimed<'a>(checked: &Checked<'a>) -> Result<Netlist<'a>, Refusal> {
     if plan.nodes + plan.registers > MAX_NODES {
         return refuse(GROWN, NOWHERE);
     }
-    Ok(Netlist {
+    let netlist = Netlist {
         tables: checked.netlist.tables.clone(),
         nodes: plan.build(),
-    })
+    };
+    Ok(Retimed { leads, netlist })
 }
 
 /// The clocked ROMs that one asynchronous ROM becomes. Only one of lead 0 can become several:

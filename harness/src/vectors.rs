@@ -2,7 +2,9 @@
 
 use std::fs;
 use std::path::{Path, PathBuf};
+use std::str::FromStr;
 
+use crate::preview::Size;
 use crate::refusal::{Answer, Refusal};
 
 /// One file and all that is known of it.
@@ -11,6 +13,8 @@ pub struct Vector {
     pub file: Vec<u8>,
     /// The rewritten file, or the rewriter's refusal.
     pub rewritten: Result<Vec<u8>, Refusal>,
+    /// The rewritten file's size, or the preview's refusal.
+    pub preview: Result<Size, Refusal>,
     /// Where the reader accepts the file: runs from reset.
     pub trace: Option<Trace>,
 }
@@ -41,7 +45,7 @@ impl Vector {
 pub fn file() -> PathBuf {
     match std::env::var_os("PUNQELIS_VECTORS") {
         Some(file) => PathBuf::from(file),
-        None => Path::new(env!("CARGO_MANIFEST_DIR")).join("../vectors/base.txt"),
+        None => Path::new(env!("CARGO_MANIFEST_DIR")).join("../vectors/t01.txt"),
     }
 }
 
@@ -60,12 +64,14 @@ fn vector(case: &str) -> Vector {
     let name = lines.next().expect("a name").to_owned();
     let mut file = None;
     let mut rewritten = None;
+    let mut preview = None;
     let mut trace: Option<Trace> = None;
     for line in lines {
         let words: Vec<&str> = line.split(' ').collect();
         match words[..] {
             ["file", digits] => file = Some(hex(digits)),
             ["rewrite", ref given @ ..] => rewritten = Some(answer(given)),
+            ["preview", ref given @ ..] => preview = Some(size(given)),
             ["reset", digits] => {
                 trace = Some(Trace {
                     reset: hex(digits),
@@ -86,6 +92,7 @@ fn vector(case: &str) -> Vector {
     Vector {
         file: file.expect("a file"),
         rewritten: rewritten.expect("what rewriting answers"),
+        preview: preview.expect("what the preview answers"),
         trace,
         name,
     }
@@ -95,12 +102,35 @@ fn vector(case: &str) -> Vector {
 fn answer(words: &[&str]) -> Result<Vec<u8>, Refusal> {
     match *words {
         [digits] => Ok(hex(digits)),
-        ["refused", number, place] => Err(Refusal {
-            number: number.parse().expect(number),
-            place: place.parse().expect(place),
-        }),
+        ["refused", number, place] => Err(refusal(number, place)),
         _ => panic!("no answer: {words:?}"),
     }
+}
+
+/// The four numbers of a size, or `refused NUMBER PLACE`.
+fn size(words: &[&str]) -> Result<Size, Refusal> {
+    match *words {
+        [clocked_roms, registers, length, largest_lead] => Ok(Size {
+            clocked_roms: parsed(clocked_roms),
+            registers: parsed(registers),
+            length: parsed(length),
+            largest_lead: parsed(largest_lead),
+        }),
+        ["refused", number, place] => Err(refusal(number, place)),
+        _ => panic!("no size: {words:?}"),
+    }
+}
+
+fn refusal(number: &str, place: &str) -> Refusal {
+    Refusal {
+        number: parsed(number),
+        place: parsed(place),
+    }
+}
+
+fn parsed<N: FromStr>(digits: &str) -> N {
+    let number = digits.parse().ok();
+    number.unwrap_or_else(|| panic!("no number: {digits}"))
 }
 
 /// Bytes in hexadecimal, `-` for none.

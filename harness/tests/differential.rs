@@ -2,9 +2,11 @@
 //! The first difference ends a test and shows the file.
 #![cfg(feature = "check")]
 
+use std::fmt::Debug;
+
 use harness::product;
 use harness::random::{self, Random};
-use harness::{hex, workloads, Answer};
+use harness::{hex, workloads, Refusal};
 
 /// A file of any sort, most of them with something wrong.
 fn any_file(random: &mut Random) -> Vec<u8> {
@@ -46,6 +48,30 @@ fn workload_files() -> Vec<Vec<u8>> {
     designs.iter().map(|design| design.file()).collect()
 }
 
+/// Every cut of a file, and the file with every single byte of it changed.
+fn cuts_and_changes(random: &mut Random, file: &[u8]) -> Vec<Vec<u8>> {
+    let mut others = Vec::new();
+    for at in 0..file.len() {
+        others.push(file[..at].to_vec());
+        for change in [1, 2, 3, 16, 128, random.byte()] {
+            let mut other = file.to_vec();
+            other[at] ^= change;
+            others.push(other);
+        }
+    }
+    others
+}
+
+/// A well-formed file of at most 250 bytes.
+fn small_file(random: &mut Random) -> Vec<u8> {
+    loop {
+        let file = random::netlist(random).file();
+        if file.len() <= 250 {
+            return file;
+        }
+    }
+}
+
 /// What was compared so far.
 #[derive(Default)]
 struct Tally {
@@ -58,7 +84,13 @@ struct Tally {
 
 impl Tally {
     /// Compares two answers to one call; what was lent to it besides the file is only shown.
-    fn answer(&mut self, file: &[u8], lent: &[&[u8]], own: Answer, product: Answer) {
+    fn answer<T: Copy + Debug + PartialEq>(
+        &mut self,
+        file: &[u8],
+        lent: &[&[u8]],
+        own: Result<T, Refusal>,
+        product: Result<T, Refusal>,
+    ) {
         if product != own {
             let lent: Vec<String> = lent.iter().map(|bytes| hex(bytes)).collect();
             panic!(
@@ -107,26 +139,16 @@ fn check() {
     tally.print("check");
 }
 
-/// Every cut of some files, and every single byte of them changed.
 #[test]
 fn check_of_every_cut_and_byte() {
     let mut random = Random::new(11);
     let mut tally = Tally::default();
-    while tally.files < 60 {
-        let file = random::netlist(&mut random).file();
-        if file.len() > 250 {
-            continue;
-        }
+    for _ in 0..60 {
+        let file = small_file(&mut random);
         tally.files += 1;
-        for at in 0..file.len() {
-            let cut = &file[..at];
-            tally.answer(cut, &[], harness::check(cut), product::check(cut));
-            let mut other = file.clone();
-            for change in [1, 2, 3, 16, 128, random.byte()] {
-                other[at] = file[at] ^ change;
-                tally.bytes += other.len();
-                tally.answer(&other, &[], harness::check(&other), product::check(&other));
-            }
+        for other in cuts_and_changes(&mut random, &file) {
+            tally.bytes += other.len();
+            tally.answer(&other, &[], harness::check(&other), product::check(&other));
         }
     }
     tally.print("check of every cut and byte");
@@ -272,10 +294,10 @@ mod rewriting {
     use super::runs::Lent;
     use super::*;
     use harness::checks::checked;
-    use harness::format::MAX_FILE;
+    use harness::format::{self, MAX_FILE};
     use harness::netlist::Kind;
     use harness::random::Entry;
-    use harness::refusal::{Refusal, NOWHERE, OUT};
+    use harness::refusal::{NOWHERE, OUT};
     use harness::simulate::state_len;
 
     #[test]
@@ -309,6 +331,55 @@ mod rewriting {
             }
         }
         tally.print("rewrite");
+    }
+
+    /// The product's preview against the harness's, and against the product's own rewriting into
+    /// an output as long as is wanted.
+    fn compare_preview(tally: &mut Tally, file: &[u8]) {
+        let size = product::preview(file);
+        tally.answer(file, &[], harness::preview(file), size);
+        let mut out = vec![0; MAX_FILE];
+        let answer = product::rewrite(file, &mut out);
+        tally.answer(file, &[], answer, size.map(|size| size.length));
+        if let Ok(size) = size {
+            let new = format::read(&out[..size.length]).expect("rewritten files are well formed");
+            assert_eq!(
+                size.clocked_roms,
+                new.count(Kind::ClockedRom),
+                "{}",
+                hex(file)
+            );
+            assert_eq!(size.registers, new.count(Kind::Register), "{}", hex(file));
+        }
+    }
+
+    #[test]
+    fn preview() {
+        let mut random = Random::new(32);
+        let mut tally = Tally::default();
+        let files = (0..8_000).map(|_| any_file(&mut random));
+        for file in workload_files().into_iter().chain(files) {
+            tally.files += 1;
+            compare_preview(&mut tally, &file);
+        }
+        tally.print("preview");
+        let [up_to_13 @ .., out, _, _] = tally.refusals;
+        assert!(up_to_13.iter().all(|&answers| answers > 0));
+        assert_eq!(out, 0, "14 never comes from a preview");
+    }
+
+    #[test]
+    fn preview_of_every_cut_and_byte() {
+        let mut random = Random::new(33);
+        let mut tally = Tally::default();
+        for _ in 0..4 {
+            let file = small_file(&mut random);
+            tally.files += 1;
+            for other in cuts_and_changes(&mut random, &file) {
+                compare_preview(&mut tally, &other);
+            }
+        }
+        tally.print("preview of every cut and byte");
     }
 
     /// The old and the rewritten file through the product alone, each over its own state, with

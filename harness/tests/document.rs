@@ -4,12 +4,18 @@ use harness::checks::checked;
 use harness::design::Design;
 use harness::netlist::{Kind, Netlist, Node};
 use harness::simulate::{outputs_len, state_len};
-use harness::{Answer, OnBytes, OneClock, Refusal};
+use harness::{Answer, OnBytes, OneClock, Preview, Refusal, Size};
 
 const REWRITERS: &[OnBytes] = &[
     harness::rewrite,
     #[cfg(feature = "rewrite")]
     harness::product::rewrite,
+];
+
+const PREVIEWS: &[Preview] = &[
+    harness::preview,
+    #[cfg(feature = "rewrite")]
+    harness::product::preview,
 ];
 
 const RUNS: &[(OnBytes, OneClock)] = &[
@@ -34,7 +40,25 @@ fn rewritten(file: &[u8]) -> Result<Vec<u8>, Refusal> {
 }
 
 fn refused(design: &Design, number: u16, place: u16) {
-    assert_eq!(rewritten(&design.file()), Err(Refusal { number, place }));
+    let refusal = Refusal { number, place };
+    assert_eq!(rewritten(&design.file()), Err(refusal));
+    for preview in PREVIEWS {
+        assert_eq!(preview(&design.file()), Err(refusal));
+    }
+}
+
+/// Previews the file: clocked ROMs, registers, length, largest lead.
+fn size_is(file: &[u8], numbers: [usize; 4]) {
+    let [clocked_roms, registers, length, largest_lead] = numbers;
+    let size = Size {
+        clocked_roms,
+        registers,
+        length,
+        largest_lead,
+    };
+    for preview in PREVIEWS {
+        assert_eq!(preview(file), Ok(size));
+    }
 }
 
 /// Runs a file with one output port from reset, with the inputs, and compares the outputs.
@@ -67,6 +91,7 @@ fn one_bit() -> Design {
 fn empty() {
     let file = [1, 0, 1, 1, 4, 0, 0];
     assert_eq!(rewritten(&file), Ok(file.to_vec()));
+    size_is(&file, [0, 0, 7, 0]);
 }
 
 #[test]
@@ -87,6 +112,7 @@ fn adder() {
         0x00, 0x01, 0x04, 0x00, 0x00,
     ];
     assert_eq!(rewritten(&old), Ok(new.to_vec()));
+    size_is(&old, [1, 2, 65, 1]);
     outputs_are(&old, &[NO_INPUTS; 5], &[1, 2, 0, 3, 1]);
     outputs_are(&new, &[NO_INPUTS; 5], &[1, 2, 0, 3, 1]);
 }
@@ -103,6 +129,7 @@ fn toggle() {
     expected.clocked_rom(0, 0, 1);
     expected.output(0);
     assert_eq!(new, expected.file());
+    size_is(&design.file(), [1, 0, 33, 1]);
     outputs_are(&design.file(), &[NO_INPUTS; 4], &[1, 0, 1, 0]);
     outputs_are(&new, &[NO_INPUTS; 4], &[1, 0, 1, 0]);
 }
@@ -130,6 +157,7 @@ fn input_register_rom_output() {
         let rom = expected.clocked_rom(port, 0, word);
         expected.output(rom);
         assert_eq!(new, expected.file());
+        size_is(&design.file(), [1, 0, 38, 1]);
         outputs_are(&new, &[&[0, 0], &[0, 1], &[0, 0]], &[word, 1, 0]);
     }
 }
@@ -148,6 +176,7 @@ fn input_rom_register_output() {
         let rom = expected.clocked_rom(port, 0, reset);
         expected.output(rom);
         assert_eq!(new, expected.file());
+        size_is(&design.file(), [1, 0, 38, 0]);
     }
 }
 
@@ -170,6 +199,7 @@ fn two_registers_of_different_reset() {
     expected.output(first);
     expected.output(second);
     assert_eq!(new, expected.nodes);
+    size_is(&design.file(), [2, 0, 59, 0]);
 }
 
 #[test]
@@ -210,4 +240,5 @@ fn output_one_byte_short() {
         assert_eq!(out, vec![0xa5; file.len()]);
         assert_eq!(rewrite(&file, &mut out), Ok(file.len()));
     }
+    size_is(&file, [0, 1, file.len(), 0]);
 }

@@ -10,10 +10,10 @@ use harness::leads::{chains, leads};
 use harness::netlist::{Kind, Netlist, MAX_NODES};
 use harness::random::{self, Random};
 use harness::refusal::{CLOSED_DEBT, GROWN, LOOP, PORT_DEBT, RING, SHORT};
-use harness::rewrite::retimed;
+use harness::rewrite::{retimed, Retimed};
 use harness::simulate::{inputs_len, outputs_len, reset_checked, run_checked, state_len};
 use harness::stack::stack_use;
-use harness::workloads;
+use harness::{workloads, Size};
 
 fn rewrite_refusal(file: &[u8]) -> Option<u16> {
     let mut out = vec![0; MAX_FILE];
@@ -37,20 +37,22 @@ fn random_netlists_are_varied() {
             design.netlist(),
             "reading gives back what was written"
         );
-        let chains = chains(&checked);
-        let leads = leads(&checked, &chains).expect("random netlists have no debt");
         for node in netlist.nodes.iter().filter(|n| n.kind.is_gate()) {
             operations[node.kind as usize - Kind::Constant as usize] += 1;
         }
         match retimed(&checked) {
-            Ok(new) => {
+            Ok(Retimed {
+                leads,
+                netlist: new,
+            }) => {
                 accepted += 1;
                 early += usize::from(leads.iter().any(|&lead| lead >= 6));
                 split += usize::from(roms(&new) > roms(netlist));
+                let chains = chains(&checked);
                 long += usize::from(chains.iter().any(|chain| chain.registers >= 20));
                 largest += usize::from(netlist.nodes.len() == MAX_NODES);
             }
-            Err(refusal) => assert_eq!(refusal.number, GROWN),
+            Err(refusal) => assert_eq!(refusal.number, GROWN, "random netlists have no debt"),
         }
     }
     println!("{files} netlists, {accepted} accepted; among these {early} with a lead of 6 and");
@@ -160,6 +162,65 @@ fn leads_are_the_largest_excess() {
     assert!(closed > 500 && port > 500);
 }
 
+/// The largest lead of a node that is no register, by walks.
+fn largest_lead(checked: &Checked) -> i32 {
+    let excess = largest_excess(checked).expect("no closed debt");
+    let nodes = checked.netlist.nodes.iter().zip(excess);
+    let leads = nodes.filter(|(node, _)| node.kind != Kind::Register);
+    leads.map(|(_, lead)| lead).max().unwrap_or(0)
+}
+
+/// The preview against the rewriting: the refusal, or the length and the nodes of the new file.
+#[test]
+fn previews_agree_with_rewriting() {
+    let mut random = Random::new(6);
+    let mut out = vec![0; MAX_FILE];
+    let [mut accepted, mut early] = [0; 2];
+    let mut refused = [0; 17];
+    for _ in 0..3_000 {
+        let design = match random.below(5) {
+            0 | 1 => random::netlist(&mut random),
+            2 => random::closed_debt(&mut random),
+            3 => random::port_debt(&mut random),
+            _ => random::grown(&mut random).0,
+        };
+        let mut file = design.file();
+        if random.chance(10) {
+            file = random::damaged(&mut random, &file);
+        }
+        let answer = harness::rewrite(&file, &mut out);
+        let size = match harness::preview(&file) {
+            Ok(size) => size,
+            Err(refusal) => {
+                assert_eq!(answer, Err(refusal));
+                refused[usize::from(refusal.number)] += 1;
+                continue;
+            }
+        };
+        assert_eq!(answer, Ok(size.length));
+        let old = checked(&file).expect("checked before");
+        assert_eq!(size.largest_lead as i32, largest_lead(&old));
+        let new_file = &out[..size.length];
+        let new = format::read(new_file).expect("a rewritten file is well formed");
+        assert_eq!(size.clocked_roms, new.count(Kind::ClockedRom));
+        assert_eq!(size.registers, new.count(Kind::Register));
+        // Rewriting it once more changes nothing, and no node of it runs early.
+        let again = Size {
+            largest_lead: 0,
+            ..size
+        };
+        assert_eq!(harness::preview(new_file), Ok(again));
+        accepted += 1;
+        early += usize::from(size.largest_lead > 1);
+    }
+    println!("{accepted} previews compared, {early} of them with a lead above 1");
+    println!("refused previews by number: {refused:?}");
+    assert!(accepted > 1_000 && early > 100);
+    for number in [CLOSED_DEBT, PORT_DEBT, GROWN] {
+        assert!(refused[usize::from(number)] > 100, "{number}");
+    }
+}
+
 #[test]
 fn old_and_rewritten_run_alike() {
     let mut random = Random::new(5);
@@ -223,6 +284,8 @@ fn workloads_are_what_they_say() {
         assert_eq!(design.nodes.len(), nodes);
         assert_eq!(rewrite_refusal(&design.file()), None);
     }
+    let leads = harness::preview(&workloads::largest_leads().file());
+    assert_eq!(leads.map(|size| size.largest_lead), Ok(1_022));
     assert_eq!(
         rewrite_refusal(&workloads::closed_debt().file()),
         Some(CLOSED_DEBT)

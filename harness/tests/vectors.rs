@@ -4,7 +4,7 @@ use harness::checks::checked;
 use harness::format::MAX_FILE;
 use harness::simulate::{outputs_len, state_len};
 use harness::vectors::{self, Run};
-use harness::{Check, OnBytes, OneClock};
+use harness::{Check, OnBytes, OneClock, Preview};
 
 #[cfg(feature = "check")]
 use harness::product;
@@ -25,6 +25,11 @@ fn own_rewrite() {
 }
 
 #[test]
+fn own_preview() {
+    preview(harness::preview);
+}
+
+#[test]
 #[cfg(feature = "check")]
 fn product_check() {
     check(product::check);
@@ -40,6 +45,12 @@ fn product_run() {
 #[cfg(feature = "rewrite")]
 fn product_rewrite() {
     rewrite(product::rewrite);
+}
+
+#[test]
+#[cfg(feature = "rewrite")]
+fn product_preview() {
+    preview(product::preview);
 }
 
 fn check(check: Check) {
@@ -121,5 +132,17 @@ fn rewrite(rewrite: OnBytes) {
         assert!(out == expected, "{}: other bytes", vector.name);
     }
     println!("{} files rewritten, {accepted} accepted", vectors.len());
+    assert!(accepted > 0);
+}
+
+fn preview(preview: Preview) {
+    let vectors = vectors::all();
+    let mut accepted = 0;
+    for vector in &vectors {
+        let size = preview(&vector.file);
+        assert_eq!(size, vector.preview, "{}", vector.name);
+        accepted += usize::from(size.is_ok());
+    }
+    println!("{} files previewed, {accepted} accepted", vectors.len());
     assert!(accepted > 0);
 }

@@ -1,5 +1,5 @@
-//! The product's speed as a ratio to the harness's, both measured in this one run, and the
-//! product's stack.
+//! The product's speed as a ratio to the harness's, and its preview's to its own rewriting's, all
+//! measured in this one run, and the product's stack.
 //!
 //! Each service of either side reads and checks the whole file anew at every call.
 
@@ -26,6 +26,8 @@ fn main() {
     growth();
     #[cfg(feature = "rewrite")]
     rewriting();
+    #[cfg(feature = "rewrite")]
+    previewing();
     refused();
     stack();
 }
@@ -82,13 +84,17 @@ fn median(values: impl Iterator<Item = f64>) -> f64 {
 
 impl Comparison {
     fn print(&self, name: &str) {
+        println!("{}", self.line(name));
+    }
+
+    fn line(&self, name: &str) -> String {
         let Comparison {
             product,
             harness,
             ratio,
         } = self;
         let (product, harness) = (time(*product), time(*harness));
-        println!("  {name:<36} product {product}  harness {harness}  ratio {ratio:7.2}");
+        format!("  {name:<36} product {product}  harness {harness}  ratio {ratio:7.2}")
     }
 }
 
@@ -147,6 +153,29 @@ fn compare_rewrite(file: &[u8]) -> Comparison {
     compare(product, harness)
 }
 
+#[cfg(feature = "rewrite")]
+fn compare_preview(file: &[u8]) -> Comparison {
+    assert_eq!(product::preview(file), harness::preview(file));
+    let product = || _ = black_box(product::preview(black_box(file)));
+    let harness = || _ = black_box(harness::preview(black_box(file)));
+    compare(product, harness)
+}
+
+/// The ratio of the product's preview to its own rewriting, which it should not exceed.
+#[cfg(feature = "rewrite")]
+fn preview_to_rewrite(file: &[u8]) -> f64 {
+    let mut out = vec![0; MAX_FILE];
+    let preview = || _ = black_box(product::preview(black_box(file)));
+    let rewrite = || _ = black_box(product::rewrite(black_box(file), &mut out));
+    compare(preview, rewrite).ratio
+}
+
+#[cfg(feature = "rewrite")]
+fn print_preview(name: &str, file: &[u8]) {
+    let line = compare_preview(file).line(name);
+    println!("{line}  preview / rewrite {:5.2}", preview_to_rewrite(file));
+}
+
 fn typical() {
     let design = workloads::typical();
     let file = design.file();
@@ -162,6 +191,8 @@ fn typical() {
     compare_run(&file).print("run");
     #[cfg(feature = "rewrite")]
     compare_rewrite(&file).print("rewrite");
+    #[cfg(feature = "rewrite")]
+    print_preview("preview", &file);
 }
 
 #[cfg(feature = "run")]
@@ -185,9 +216,8 @@ fn growth() {
 }
 
 #[cfg(feature = "rewrite")]
-fn rewriting() {
-    println!("rewriting, worst cases");
-    let cases = [
+fn rewriting_cases() -> [(&'static str, Design); 7] {
+    [
         ("deep registers", workloads::deep_registers()),
         ("deep registers, shared", workloads::deep_shared_registers()),
         ("long relaxation", workloads::long_relaxation()),
@@ -198,9 +228,22 @@ fn rewriting() {
         ("largest leads", workloads::largest_leads()),
         ("ring of ROMs and registers", workloads::large_ring()),
         ("closed debt (11)", workloads::closed_debt()),
-    ];
-    for (name, design) in cases {
+    ]
+}
+
+#[cfg(feature = "rewrite")]
+fn rewriting() {
+    println!("rewriting, worst cases");
+    for (name, design) in rewriting_cases() {
         compare_rewrite(&design.file()).print(name);
+    }
+}
+
+#[cfg(feature = "rewrite")]
+fn previewing() {
+    println!("preview, worst cases");
+    for (name, design) in rewriting_cases() {
+        print_preview(name, &design.file());
     }
 }
 
@@ -305,5 +348,11 @@ fn stack() {
         "rewrite",
         |l| product::rewrite(&l.file, &mut l.out),
         |l| harness::rewrite(&l.file, &mut l.out),
+    );
+    #[cfg(feature = "rewrite")]
+    print(
+        "preview",
+        |l| product::preview(&l.file).map(|size| size.length),
+        |l| harness::preview(&l.file).map(|size| size.length),
     );
 }

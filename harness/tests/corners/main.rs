@@ -2,11 +2,12 @@
 //! gives them: through the harness's own implementation and through the product.
 
 mod field_by_field;
+mod previews;
 mod rewriting;
 mod whole_netlist;
 mod words_and_states;
 
-use harness::{Answer, Refusal};
+use harness::{Answer, Refusal, Size};
 
 fn check(file: &[u8], answer: Answer) {
     assert_eq!(harness::check(file), answer, "own");
@@ -18,13 +19,25 @@ fn accepted(file: &[u8]) {
     check(file, Ok(file.len()));
 }
 
+/// Refused by the check, and by the preview before it goes on.
 fn refused(file: &[u8], number: u16, place: usize) {
     check(file, Err(Refusal::new(number, place)));
+    preview_is(file, Err(Refusal::new(number, place)));
 }
 
+fn preview_is(file: &[u8], size: Result<Size, Refusal>) {
+    assert_eq!(harness::preview(file), size, "own");
+    #[cfg(feature = "rewrite")]
+    assert_eq!(harness::product::preview(file), size, "product");
+}
+
+/// What rewriting answers into an output as long as is wanted, and the preview with it.
 fn rewrite_is(file: &[u8], answer: Answer) {
     let mut out = vec![0xa5; 46_000];
     assert_eq!(harness::rewrite(file, &mut out), answer, "own");
     #[cfg(feature = "rewrite")]
     assert_eq!(harness::product::rewrite(file, &mut out), answer, "product");
+    let size = harness::preview(file);
+    assert_eq!(size.map(|size| size.length), answer, "preview");
+    preview_is(file, size);
 }
