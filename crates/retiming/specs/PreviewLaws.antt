@@ -10,7 +10,7 @@ use Rattle.netlist.specs.Net.{Net, isRegister, isClocked, countOf}
 use Rattle.netlist.specs.NodeField.{kindOf}
 use Rattle.netlist.specs.Verdict.{readerStages}
 use Rattle.netlist.specs.Numbers.{Says, SaysEach, says-verdict, says-onward, says-file}
-use Rattle.netlist.specs.File.{Decoded, good, decode, decodedNet, fileVerdict, encode}
+use Rattle.netlist.specs.File.{Decoded, good, decode, decodedNet, fileVerdict}
 use Rattle.netlist.specs.declared.Element.{Element}
 use Rattle.netlist.specs.declared.Element.the-variants.{Input, Output, Register, Async, Clocked, Gate}
 use Rattle.netlist.specs.declared.Answer.the-variants.{Accepted}
@@ -22,8 +22,8 @@ use Rattle.retiming.specs.declared.Size.{Size}
 use Rattle.retiming.specs.declared.Preview.the-variants.{Fits, Refused}
 use Rattle.retiming.specs.Debt.{debtStages, debtVerdict}
 use Rattle.retiming.specs.Rewrite.{rewritten}
-use Rattle.retiming.specs.FileRewrite.{rewriterVerdict, IsAccepted, rewrittenOf, rewrittenFile, Rewrote, writtenAfter, rewriteFile}
-use Rattle.retiming.specs.RewrittenFile.{Past13, past-13, accepted-written, reads-new, new-length}
+use Rattle.retiming.specs.FileRewrite.{rewriterVerdict, IsAccepted, rewrittenFile, Rewrote, writtenAfter, rewriteFile}
+use Rattle.retiming.specs.RewrittenFile.{Past13, past-13, file-is, accepted-written, reads-new, new-length}
 use Rattle.retiming.specs.Preview.{measured, sizeOf, previewBy, previewFile}
 
 -- ---- the verdict behind a preview
@@ -55,13 +55,9 @@ module _ (s : List ℕ) {z : Size} (e : previewFile s ≡ Fits z) where
   pub fits-size : z ≡ sizeOf (fits-past .net)
   fits-size = fits .1 ∙ ap (λ (d : Decoded). sizeOf (decodedNet d)) (fits-past .reads)
 
-  fits-file : rewrittenFile s ≡ encode (rewritten (fits-past .net))
-  unfolding rewrittenFile
-  fits-file = ap rewrittenOf (fits-past .reads)
-
   fits-length : z .length ≡ length (rewrittenFile s)
   unfolding sizeOf measured
-  fits-length = ap (λ (y : Size). y .length) fits-size ∙ sym (ap (λ (b : List ℕ). length b) fits-file)
+  fits-length = ap (λ (y : Size). y .length) fits-size ∙ sym (ap (λ (b : List ℕ). length b) (file-is s fits-past))
 
 -- ---- 1 to 13 and no other number
 

@@ -68,16 +68,16 @@ not-kind-3 (Gate o) h k = omega arith
 
 -- ---- the rewritten file
 
+pub file-is : (s : List ℕ) (t : Past13 s) → rewrittenFile s ≡ encode (rewritten (t .net))
+unfolding rewrittenFile
+file-is s t = ap rewrittenOf (t .reads)
+
 module _ (s : List ℕ) (b : Bytes s) (t : Past13 s) where
   old-within : Within (t .net)
   old-within = decode-within s (t .net) b (t .reads)
 
   pub netlists-alike : Alike (t .net) (rewritten (t .net))
   netlists-alike = past-debt-alike (t .net) (old-within .fields) (t .fine) (t .debtless)
-
-  file-is : rewrittenFile s ≡ encode (rewritten (t .net))
-  unfolding rewrittenFile
-  file-is = ap rewrittenOf (t .reads)
 
   new-in-file : Within (rewritten (t .net))
   unfolding rewritten rewrittenWith newTables
@@ -88,14 +88,14 @@ module _ (s : List ℕ) (b : Bytes s) (t : Past13 s) where
 
   -- it is read as the rewritten netlist
   pub reads-new : decode (rewrittenFile s) ≡ good (rewritten (t .net))
-  reads-new = ap decode file-is ∙ decode-encode (rewritten (t .net)) new-in-file
+  reads-new = ap decode (file-is s t) ∙ decode-encode (rewritten (t .net)) new-in-file
 
   -- it is a list of bytes, and no longer than document 01's limits allow
   pub new-bytes : Bytes (rewrittenFile s)
-  new-bytes = rw file-is (bytes-encode (rewritten (t .net)) new-in-file)
+  new-bytes = rw (file-is s t) (bytes-encode (rewritten (t .net)) new-in-file)
 
   pub new-length : length (rewrittenFile s) ≤ 45143
-  new-length = rw file-is (length-encode (rewritten (t .net)) new-in-file)
+  new-length = rw (file-is s t) (length-encode (rewritten (t .net)) new-in-file)
 
   -- it passes the reader: 1 to 10
   pub passes-reader : fileVerdict (rewrittenFile s) ≡ Fine

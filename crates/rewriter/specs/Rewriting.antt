@@ -17,8 +17,8 @@ use Rattle.netlist.specs.declared.Verdict.{Verdict}
 use Rattle.netlist.specs.declared.Verdict.the-variants.{Fine, Refuses}
 use Rattle.circuit.specs.Circuit.{netOf}
 use Rattle.retiming.specs.Rewrite.{rewritten}
-use Rattle.retiming.specs.FileRewrite.{rewriterVerdict, IsAccepted, rewrittenOf, rewrittenFile, Rewrote, written, writtenAfter, rewriteFile}
-use Rattle.retiming.specs.RewrittenFile.{past-13}
+use Rattle.retiming.specs.FileRewrite.{rewriterVerdict, IsAccepted, rewrittenFile, Rewrote, written, writtenAfter, rewriteFile}
+use Rattle.retiming.specs.RewrittenFile.{past-13, file-is}
 use Rattle.retiming.specs.PreviewLaws.{refused-written}
 use Rattle.retime.specs.declared.Retimed.{Retimed}
 use Rattle.retime.specs.declared.Retimed.the-variants.{Laid}
@@ -42,8 +42,7 @@ long-enough b out h = sym (rw (le-ltb (length out) (length b) h))
 -- ---- by what is laid
 
 accepted-file : (s : List ℕ) → IsAccepted s → encode (rewritten (decodedNet (decode s))) ≡ rewrittenFile s
-unfolding rewrittenFile
-accepted-file s a = let reads = past-13 s a .reads in ap (λ (d : Decoded). encode (rewritten (decodedNet d))) reads ∙ sym (ap rewrittenOf reads)
+accepted-file s a = let t = past-13 s a in ap (λ (d : Decoded). encode (rewritten (decodedNet d))) (t .reads) ∙ sym (file-is s t)
 
 module _ {s l : List ℕ} {r : Retimed} (t : LaysFile s l r) (out : List ℕ) where
   pub laid-none : {k p : ℕ} → r ≡ retimed.Refused k p → record { answer = Refused k p; out = out } ≡ rewriteFile s out
