@@ -9,7 +9,7 @@ use Rattle.words.specs.declared.Op.the-variants.{Constant, Not, And, Or, Xor, A
 use Rattle.netlist.specs.declared.Memory.{Memory}
 use Rattle.netlist.specs.declared.Element.{Element}
 use Rattle.netlist.specs.declared.Element.the-variants.{Input, Output, Register, Async, Clocked, Gate}
-use Rattle.netlist.specs.Net.{Table, noTable, tableNo, spelled, Net, size, elementAt, widthAt, source, operands, isInput, isOutput, Sourced}
+use Rattle.netlist.specs.Net.{Body, Words, WithFill, Table, noTable, tableNo, spelled, Net, size, elementAt, widthAt, source, operands, isInput, isOutput, Sourced}
 use Rattle.netlist.specs.Reach.{Reads}
 use Rattle.netlist.specs.Rank.{Loop, Ring}
 
@@ -89,6 +89,11 @@ WidthsRight N v = ElementWidths (N .tables) (elementAt N v) (widthAt N v) (λ p.
 abbrev pub HasReader : Net → ℕ → Type 0
 HasReader N v = isInput (elementAt N v) ≡ false → isOutput (elementAt N v) ≡ false → (x : ℕ) × Reads N x v
 
+-- 4, of how a table is written, beyond what its addresses show: beside a fill word there is some word, and the fill word fits also where no address reads it
+abbrev pub BodyFits : Body → ℕ → Type 0
+BodyFits (Words l) m = Unit {0}
+BodyFits (WithFill f l) m = (1 ≤ length l) × (f < m)
+
 -- 4
 pub record TableFits (t : Table) : Type 0 where
   pub bits-low : 1 ≤ t .bits
@@ -97,6 +102,7 @@ pub record TableFits (t : Table) : Type 0 where
   pub wide-high : t .wide ≤ 16
   pub all-words : length (spelled t) ≡ 2 ^ t .bits
   pub each-fits : (a : ℕ) → a < length (spelled t) → getD (spelled t) a 0 < 2 ^ t .wide
+  pub body-fits : BodyFits (t .body) (2 ^ t .wide)
 
 -- what 5 and 13 leave of sizes. (How many tables there may be is a limit of the file: codec, Within.)
 pub record Bounds (N : Net) : Type 0 where

@@ -4,11 +4,11 @@ use mathlib.Core.List.{List, [], _∷_}
 use Prim.Native.Nat.{ℕ}
 use Rattle.lists.specs.Paths.{pick}
 use Rattle.words.specs.declared.Op.the-variants.{Add}
-use Rattle.netlist.specs.Net.{Words, Net, rom, nodeAt, elementAt, widthAt, source, spelled}
+use Rattle.netlist.specs.Net.{Words, WithFill, Net, rom, nodeAt, elementAt, widthAt, source, spelled}
 use Rattle.netlist.specs.Reach.{readsTest, reachedFirst, reachedNext, reachedAfter, reachesItself}
 use Rattle.netlist.specs.Verdict.{badSource, badWidth, unread, inLoop, inRing, verdict, readerStages, readerVerdict}
 use Rattle.netlist.specs.NodeField.{opRead, kindRead, elementRead, sourcesFrom, nodeRead, nodeContent}
-use Rattle.netlist.specs.TableField.{tableGood, tableRead, tableContent}
+use Rattle.netlist.specs.TableField.{wordsGood, filledGood, bodyGood, tableGood, bodyRead, tableRead, tableContent}
 use Rattle.netlist.specs.Scan.{tableStep, nodeStep, endStep, stepAt, walk, afterHead, scan}
 use Rattle.netlist.specs.File.{tableIn, nodeIn, netIn, good, decode, fileVerdict, checkAnswer, encode}
 use Rattle.netlist.specs.declared.Element.the-variants.{Output, Register, Async, Gate}
@@ -16,7 +16,7 @@ use Rattle.netlist.specs.declared.Answer.the-variants.{Accepted, Refused
 
 -- all that computes
 unfoldable pub reading : ℕ
-unfolding pick opRead kindRead elementRead sourcesFrom nodeRead tableGood tableRead tableStep nodeStep endStep stepAt walk afterHead scan tableIn nodeIn netIn decode
+unfolding pick opRead kindRead elementRead sourcesFrom nodeRead wordsGood filledGood bodyGood tableGood bodyRead tableRead tableStep nodeStep endStep stepAt walk afterHead scan tableIn nodeIn netIn decode
 reading = 0
 
 unfoldable pub checking : ℕ
@@ -70,3 +70,42 @@ second-head = refl
 after-the-end : checkAnswer (1 ∷ 0 ∷ 1 ∷ 1 ∷ 4 ∷ 0 ∷ 0 ∷ 9 ∷ []) ≡ Refused 3 7
 unfolding checking
 after-the-end = refl
+
+-- ---- T-02: tables with a fill word
+
+-- the adder, its table as 3, 1 and the fill word 2
+early : Net
+early = record { tables = record { bits = 2; wide = 2; body = WithFill 2 (3 ∷ 1 ∷ []) } ∷ []; nodes = adder .nodes }
+
+early-file : List ℕ
+early-file =
+    0x01 ∷ 0x00 ∷ 0x01 ∷ 0x01 ∷ 0x05 ∷ 0x00 ∷ 0x08 ∷ 0x02 ∷ 0x02 ∷ 0x00 ∷ 0x02 ∷ 0x00 ∷ 0x03 ∷ 0x00 ∷ 0x01
+    ∷ 0x03 ∷ 0x00 ∷ 0x06 ∷ 0x02 ∷ 0x02 ∷ 0x00 ∷ 0x02 ∷ 0x00 ∷ 0x01 ∷ 0x03 ∷ 0x00 ∷ 0x05 ∷ 0x03 ∷ 0x02 ∷ 0x00 ∷ 0x00 ∷ 0x00
+    ∷ 0x03 ∷ 0x00 ∷ 0x07 ∷ 0x05 ∷ 0x02 ∷ 0x05 ∷ 0x00 ∷ 0x00 ∷ 0x00 ∷ 0x01 ∷ 0x03 ∷ 0x00 ∷ 0x04 ∷ 0x01 ∷ 0x02 ∷ 0x00 ∷ 0x00
+    ∷ 0x04 ∷ 0x00 ∷ 0x00 ∷ []
+
+early-written : encode early ≡ early-file
+unfolding early adder early-file encode nodeContent tableContent
+early-written = refl
+
+early-decoded : decode early-file ≡ good early
+unfolding early adder early-file reading
+early-decoded = refl
+
+-- it answers what the adder's table answers
+early-spelled : spelled (record { bits = 2; wide = 2; body = WithFill 2 (3 ∷ 1 ∷ []) }) ≡ 3 ∷ 1 ∷ 2 ∷ 2 ∷ []
+unfolding spelled
+early-spelled = refl
+
+-- too wide, though no address reads it
+fill-too-wide : checkAnswer (1 ∷ 0 ∷ 1 ∷ 1 ∷ 5 ∷ 0 ∷ 8 ∷ 1 ∷ 1 ∷ 0 ∷ 2 ∷ 0 ∷ 0 ∷ 0 ∷ 1 ∷ 4 ∷ 0 ∷ 0 ∷ []) ≡ Refused 4 4
+unfolding checking
+fill-too-wide = refl
+
+no-word : checkAnswer (1 ∷ 0 ∷ 1 ∷ 1 ∷ 5 ∷ 0 ∷ 4 ∷ 1 ∷ 1 ∷ 0 ∷ 1 ∷ 4 ∷ 0 ∷ 0 ∷ []) ≡ Refused 4 4
+unfolding checking
+no-word = refl
+
+three-of-two : checkAnswer (1 ∷ 0 ∷ 1 ∷ 1 ∷ 5 ∷ 0 ∷ 10 ∷ 1 ∷ 1 ∷ 0 ∷ 0 ∷ 0 ∷ 0 ∷ 0 ∷ 1 ∷ 0 ∷ 1 ∷ 4 ∷ 0 ∷ 0 ∷ []) ≡ Refused 4 4
+unfolding checking
+three-of-two = refl

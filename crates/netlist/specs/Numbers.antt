@@ -9,12 +9,10 @@ use lib.Dec.{ltb}
 use Rattle.lists.specs.Lists.{lowest}
 use Rattle.lists.specs.BelowLaws.{true-or-false}
 use Rattle.lists.specs.Paths.{pick, arms}
-use Rattle.netlist.specs.Scan.{tableStep, nodeStep, endStep, stepAt, Scan, refused, found, follow, walk, afterHead, scan}
+use Rattle.netlist.specs.Scan.{Step, Refuse, TableField, NodeField, EndField, tableStep, nodeStep, endStep, stepAt, Scan, refused, found, follow, walk, afterHead, scan}
 use Rattle.netlist.specs.Verdict.{Stage, verdict, onward, readerStages, readerVerdict}
 use Rattle.netlist.specs.Net.{Net}
 use Rattle.netlist.specs.File.{netIn, decoded, decode, judged, fileVerdict}
-use Rattle.netlist.specs.declared.Step.{Step}
-use Rattle.netlist.specs.declared.Step.the-variants.{Refuse, TableField, NodeField, EndField}
 use Rattle.netlist.specs.declared.Verdict.{Verdict}
 use Rattle.netlist.specs.declared.Verdict.the-variants.{Fine, Refuses}
 
@@ -61,9 +59,13 @@ module _ (P : ℕ → Type 0) where
     unfolding stepAt tableStep nodeStep endStep
     step-says s at t n =
         arms-step _ (refuses two) (arms-step _ (refuses two)
-        (arms-step _ (arms-step _ (refuses three) (arms-step _ (arms-step _ table (refuses four)) (refuses four)))
+        (arms-step _ of-table
         (arms-step _ (arms-step _ (arms-step _ node (refuses five)) (refuses five))
-        (arms-step _ (arms-step _ (arms-step _ end (refuses three)) (refuses three)) (refuses three)))))
+        (arms-step _ (arms-step _ (arms-step _ end (refuses three)) (refuses three))
+        (arms-step _ of-table (refuses three))))))
+      where
+        of-table : SaysStep (tableStep s at t n)
+        of-table = arms-step _ (refuses three) (arms-step _ (arms-step _ table (refuses four)) (refuses four))
 
     follow-says : {x : Step} {done : Scan} {tables nodes : ℕ → Scan} → SaysStep x → SaysScan done → ((i : ℕ) → SaysScan (tables i)) → ((i : ℕ) → SaysScan (nodes i)) → SaysScan (follow x done tables nodes)
     follow-says (refuses h) d t n = is-refused h

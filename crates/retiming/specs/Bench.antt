@@ -1,4 +1,4 @@
--- The bench netlists of document 01 that are marked P, in one list: a file's bytes in; the refusal, or the rewritten bytes, the leads and the output words of the
+-- The bench netlists of document 01 that are marked P, and one of T-02, in one list: a file's bytes in; the refusal, or the rewritten bytes, the leads and the output words of the
 -- first clocks out; and the preview. One computation checks them all. Assumes nothing.
 use mathlib.Core.Path.{_≡_, refl}
 use mathlib.Core.Logic.{⊎-elim}
@@ -263,12 +263,37 @@ owing = record {
   preview = preview.Refused 11 65535;
 }
 
+-- T-02: the adder, its table as 3, 1 and the fill word 2
+early : Case
+early = record {
+  file =
+      0x01 ∷ 0x00 ∷ 0x01 ∷ 0x01
+      ∷ 0x05 ∷ 0x00 ∷ 0x08 ∷ 0x02 ∷ 0x02 ∷ 0x00 ∷ 0x02 ∷ 0x00 ∷ 0x03 ∷ 0x00 ∷ 0x01
+      ∷ 0x03 ∷ 0x00 ∷ 0x06 ∷ 0x02 ∷ 0x02 ∷ 0x00 ∷ 0x02 ∷ 0x00 ∷ 0x01
+      ∷ 0x03 ∷ 0x00 ∷ 0x05 ∷ 0x03 ∷ 0x02 ∷ 0x00 ∷ 0x00 ∷ 0x00
+      ∷ 0x03 ∷ 0x00 ∷ 0x07 ∷ 0x05 ∷ 0x02 ∷ 0x05 ∷ 0x00 ∷ 0x00 ∷ 0x00 ∷ 0x01
+      ∷ 0x03 ∷ 0x00 ∷ 0x04 ∷ 0x01 ∷ 0x02 ∷ 0x00 ∷ 0x00
+      ∷ 0x04 ∷ 0x00 ∷ 0x00 ∷ [];
+  clocks = clock [] (1 ∷ []) ∷ clock [] (2 ∷ []) ∷ clock [] (0 ∷ []) ∷ clock [] (3 ∷ []) ∷ clock [] (1 ∷ []) ∷ [];
+  gives = result
+      (0x01 ∷ 0x00 ∷ 0x01 ∷ 0x01
+      ∷ 0x05 ∷ 0x00 ∷ 0x08 ∷ 0x02 ∷ 0x02 ∷ 0x00 ∷ 0x02 ∷ 0x00 ∷ 0x03 ∷ 0x00 ∷ 0x01
+      ∷ 0x03 ∷ 0x00 ∷ 0x07 ∷ 0x04 ∷ 0x02 ∷ 0x00 ∷ 0x01 ∷ 0x00 ∷ 0x00 ∷ 0x01
+      ∷ 0x03 ∷ 0x00 ∷ 0x07 ∷ 0x05 ∷ 0x02 ∷ 0x05 ∷ 0x00 ∷ 0x03 ∷ 0x00 ∷ 0x00
+      ∷ 0x03 ∷ 0x00 ∷ 0x04 ∷ 0x01 ∷ 0x02 ∷ 0x00 ∷ 0x04
+      ∷ 0x03 ∷ 0x00 ∷ 0x06 ∷ 0x02 ∷ 0x02 ∷ 0x00 ∷ 0x01 ∷ 0x00 ∷ 0x01
+      ∷ 0x03 ∷ 0x00 ∷ 0x06 ∷ 0x02 ∷ 0x02 ∷ 0x00 ∷ 0x01 ∷ 0x00 ∷ 0x01
+      ∷ 0x04 ∷ 0x00 ∷ 0x00 ∷ [])
+      (1 ∷ 0 ∷ 0 ∷ []);
+  preview = sized 1 2 63 1;
+}
+
 pub bench : List Case
-bench = empty ∷ adder ∷ toggle ∷ bare ∷ before ∷ behind ∷ split ∷ turned ∷ owing ∷ []
+bench = empty ∷ adder ∷ toggle ∷ bare ∷ before ∷ behind ∷ split ∷ turned ∷ owing ∷ early ∷ []
 
 -- THE THEOREM
 pub bench-holds : map found bench ≡ map expected bench
-unfolding computing leadsIn outputWords foundBy found expected clock sized empty adder toggle bare before behind split turned owing bench
+unfolding computing leadsIn outputWords foundBy found expected clock sized empty adder toggle bare before behind split turned owing early bench
 bench-holds = refl
 
 -- ---- and not for the first clocks alone: demand 3, for instance of the adder

@@ -35,5 +35,7 @@ pub mod Preview
 pub mod LargestLead
 pub mod PreviewLaws
 pub mod PreviewAgrees
+pub mod Respelled
+pub mod AnswerAlike
 pub mod Computing
 pub mod Bench

@@ -89,7 +89,7 @@ refused-written s e out = ap (λ (v : Verdict). writtenAfter v (rewrittenFile s)
 
 module _ (s : List ℕ) (b : Bytes s) {z : Size} (e : previewFile s ≡ Fits z) where
   -- no longer than document 01's limits allow
-  pub fits-within : z .length ≤ 45143
+  pub fits-within : z .length ≤ 45175
   fits-within = omega (arith, fits-length s e, new-length s b (fits-past s e))
 
   -- as long as the preview says, and read as the rewritten netlist

@@ -94,7 +94,7 @@ module _ (s : List ℕ) (b : Bytes s) (t : Past13 s) where
   pub new-bytes : Bytes (rewrittenFile s)
   new-bytes = rw (file-is s t) (bytes-encode (rewritten (t .net)) new-in-file)
 
-  pub new-length : length (rewrittenFile s) ≤ 45143
+  pub new-length : length (rewrittenFile s) ≤ 45175
   new-length = rw (file-is s t) (length-encode (rewritten (t .net)) new-in-file)
 
   -- it passes the reader: 1 to 10
