@@ -1,25 +1,26 @@
 -- A node and a table's words of an opened file, over plain values. Assumes nothing.
 use mathlib.Core.Path.{_≡_, refl, sym, ap, ap₂, _∙_}
 use mathlib.Core.List.{List}
-use Prim.Native.Nat.{ℕ, _+_, _≤_, _<_}
+use Prim.Native.Nat.{ℕ, _≤_, _<_}
 use native.Mathlib.Omega.{arith}
 use lib.ListN.{length, getD, drop}
 use Rattle.lists.specs.Lists.{concatMap}
 use Rattle.words.specs.Words.{bytes}
 use Rattle.lists.specs.Paths.{on-lt, off-lt}
-use Rattle.netlist.specs.Net.{Table, noTable, spelled, Net, size, nodeAt}
+use Rattle.netlist.specs.Net.{Table, noTable, Net, size, nodeAt}
 use Rattle.netlist.specs.Verdict.{onward}
 use Rattle.netlist.specs.NodeField.{noNode}
-use Rattle.netlist.specs.TableField.{tableContent}
-use Rattle.netlist.specs.Field.{lengthAt, content}
+use Rattle.netlist.specs.TableField.{stored, storedFrom}
+use Rattle.netlist.specs.Field.{tagAt, content}
 use Rattle.netlist.specs.ScanLaws.{TableAt}
 use Rattle.netlist.specs.File.{tableIn, decode, decodedNet, fileVerdict}
 use Rattle.netlist.specs.declared.Answer.the-variants.{Accepted, Refused}
 use Rattle.netlist.specs.declared.Node.{Node}
 use Rattle.netlist.specs.declared.Verdict.{Verdict}
 use Rattle.netlist.specs.declared.Verdict.the-variants.{Fine, Refuses}
-use Rattle.codec.specs.Bytes.{Bytes, bytes-take, bytes-drop}
-use Rattle.codec.specs.TableCame.{table-as-it-came}
+use Rattle.codec.specs.Bytes.{Bytes}
+use Rattle.codec.specs.TableCame.{stored-as-they-came}
+use Rattle.codec.specs.FieldCame.{content-bytes}
 use Rattle.circuit.specs.Circuit.{netOf}
 use Rattle.checks.specs.Open.{Open}
 use Rattle.checks.specs.Services.{numbered, nodeBy, nodeOfFile, wordsOfNet, wordsBy, wordsOfFile}
@@ -74,8 +75,9 @@ module _ {s l : List ℕ} (o : Open s l) where
   words-missing k z h = record { standing = tt; served = words-of k (no-number k _ (omega arith)) }
 
   pub words-there : Bytes s → (k : ℕ) {n at : ℕ} → n ≡ length (netOf s l .tables) → k < n → TableAt s at → tableIn s at ≡ getD (netOf s l .tables) k noTable → Placed s k (At at)
-  unfolding tableIn tableContent
+  unfolding tableIn
   words-there b k {n} {at} z h t e =
+      let tag = tagAt s at in
       let c = content s at in
-      let came : drop 2 c ≡ wordsOfNet (netOf s l) k = sym (ap (λ (x : Table). concatMap bytes (spelled x)) (sym e) ∙ ap (drop 2) (table-as-it-came c (bytes-take (lengthAt s at) (drop (at + 3) s) (bytes-drop (at + 3) s b)) (t .good))) in
+      let came : drop (storedFrom tag) c ≡ wordsOfNet (netOf s l) k = sym (ap (λ (x : Table). concatMap bytes (stored (x .body))) (sym e) ∙ stored-as-they-came tag c (content-bytes s b at) (t .good)) in
       record { standing = t; served = ap (wordsBy Fine) came ∙ words-of k (has-number k _ (omega arith)) }

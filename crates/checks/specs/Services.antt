@@ -6,9 +6,10 @@ use lib.Dec.{ltb}
 use Rattle.lists.specs.Lists.{concatMap}
 use Rattle.lists.specs.Paths.{pick}
 use Rattle.words.specs.Words.{bytes}
-use Rattle.netlist.specs.Net.{noTable, spelled, Net, size, nodeAt}
+use Rattle.netlist.specs.Net.{noTable, Net, size, nodeAt}
 use Rattle.netlist.specs.Verdict.{onward}
 use Rattle.netlist.specs.NodeField.{noNode}
+use Rattle.netlist.specs.TableField.{stored}
 use Rattle.netlist.specs.File.{decode, decodedNet, fileVerdict, answer, given}
 use Rattle.netlist.specs.declared.Answer.{Answer}
 use Rattle.netlist.specs.declared.Verdict.{Verdict}
@@ -26,9 +27,9 @@ nodeBy w N v = record { answer = answer w (size N); node = given w (nodeAt N v) 
 unfoldable pub nodeOfFile : List ℕ → ℕ → NodeAnswer
 nodeOfFile s v = let N = decodedNet (decode s) in nodeBy (onward (fileVerdict s) (numbered v (size N))) N v
 
--- the words of table k as bytes, accepted with the number of bytes
+-- the stored words of table k as bytes, accepted with the number of bytes
 abbrev pub wordsOfNet : Net → ℕ → List ℕ
-wordsOfNet N k = concatMap bytes (spelled (getD (N .tables) k noTable))
+wordsOfNet N k = concatMap bytes (stored (getD (N .tables) k noTable .body))
 
 pub record WordsAnswer : Type 0 where
   pub answer : Answer

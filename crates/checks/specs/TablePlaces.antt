@@ -3,7 +3,8 @@ use mathlib.Core.Path.{_≡_, ap, _∙_}
 use mathlib.Core.List.{List, []}
 use Prim.Native.Nat.{ℕ}
 use lib.ListN.{length, drop}
-use Rattle.netlist.specs.Field.{content}
+use Rattle.netlist.specs.Field.{tagAt, content}
+use Rattle.netlist.specs.TableField.{storedFrom}
 use Rattle.netlist.specs.ScanLaws.{TableAt}
 use Rattle.netlist.specs.File.{answer}
 use Rattle.netlist.specs.declared.Answer.{Answer}
@@ -13,7 +14,7 @@ use Rattle.checks.specs.declared.TablePlace.{TablePlace}
 use Rattle.checks.specs.declared.TablePlace.the-variants.{At, Refuse}
 use Rattle.checks.specs.Services.{WordsAnswer, wordsOfFile}
 
--- what a place says of table and file, whether a table stands there, and its words as bytes
+-- what a place says of table and file, whether a table stands there, and its stored words as bytes
 abbrev pub placeVerdict : TablePlace → Verdict
 placeVerdict (At at) = Fine
 placeVerdict (Refuse k p) = Refuses k p
@@ -23,7 +24,7 @@ Standing s (At at) = TableAt s at
 Standing s (Refuse k p) = Unit {0}
 
 abbrev pub wordsAt : List ℕ → TablePlace → List ℕ
-wordsAt s (At at) = drop 2 (content s at)
+wordsAt s (At at) = drop (storedFrom (tagAt s at)) (content s at)
 wordsAt s (Refuse k p) = []
 
 -- the place is that of table k

@@ -1,4 +1,4 @@
-// The reader's layer as run and rewriter see it: checks 1 to 10, a node by its number, a table's words.
+// The reader's layer as run and rewriter see it: checks 1 to 10, a node by its number, a table's stored words.
 use circuit::WORDS;
 use circuit::node_count;
 use circuit::table_count;
@@ -34,7 +34,7 @@ pub struct NodeAnswer {
     pub node: Node,
 }
 
-// The words of a table, as the part of the caller's file that holds them, or why there are none: then the part is empty.
+// The stored words of a table, as the part of the caller's file that holds them, or why there are none: then the part is empty.
 pub struct TableAnswer<'a> {
     pub answer: Answer,
     pub words: &'a [u8],
@@ -160,7 +160,7 @@ fn place_of(file: &[u8], k: usize) -> TablePlace
     }
 }
 
-// The words of the table that stands there.
+// The stored words of the table that stands there.
 fn words_at(file: &[u8], place: TablePlace) -> &[u8]
     requires { ⌜ Standing (now file) place ⌝ }
     ensures { λ r. ⌜ now r ≡ wordsAt (now (file .entry)) place ⌝ }
@@ -181,7 +181,7 @@ fn answer_with(place: TablePlace, words: &[u8]) -> Answer
     }
 }
 
-// The words of table k. (A function over a struct that holds a reference is proved by hand: the work is done in the three above.)
+// The stored words of table k. (A function over a struct that holds a reference is proved by hand: the work is done in the three above.)
 pub fn table_words<'a>(file: &'a [u8], k: usize) -> TableAnswer<'a>
     ensures { λ r. ⌜ (r .answer ≡ wordsOfFile (now (file .entry)) k .answer)
         × (now (r .words) ≡ wordsOfFile (now (file .entry)) k .words) ⌝ }

@@ -1,23 +1,22 @@
 -- What the words of a circuit tell of its netlist. Assumes nothing.
-use mathlib.Core.Path.{_≡_, refl, sym, ap, ap₂, subst, _∙_}
+use mathlib.Core.Path.{_≡_, refl, sym, ap, subst, _∙_}
 use mathlib.Core.List.{List}
-use Prim.Native.Nat.{ℕ, zero, suc, _+_, _*_, _^_, _≤_, _<_}
+use Prim.Native.Nat.{ℕ, zero, suc, _+_, _≤_, _<_}
 use native.Mathlib.Numerals.{add-one}
 use native.Mathlib.Omega.{arith}
-use lib.ListN.{length, getD, drop, length-map, List·getD-eq-default}
-use lib.Seq.{getD-take, getD-drop}
+use lib.ListN.{length, getD, length-map, List·getD-eq-default}
 use lib.Dec.{eqb}
 use Rattle.lists.specs.Lists.{one, countBelow}
 use Rattle.lists.specs.BelowLaws.{length-listed, getD-listed, getD-map-lt}
-use Rattle.words.specs.Words.{word}
 use Rattle.netlist.specs.declared.Element.{Element}
 use Rattle.netlist.specs.declared.Node.{Node}
-use Rattle.netlist.specs.Field.{lengthAt, content}
-use Rattle.netlist.specs.TableField.{wordAt, tableRead}
-use Rattle.netlist.specs.TableLaws.{TableFacts, table-facts, content-length}
+use Rattle.netlist.specs.Field.{tagAt, lengthAt, content}
+use Rattle.netlist.specs.FieldLaws.{content-length, byte-in}
+use Rattle.netlist.specs.TableField.{tableRead}
+use Rattle.netlist.specs.TableLaws.{table-facts}
 use Rattle.netlist.specs.ScanLaws.{TableAt}
 use Rattle.netlist.specs.File.{tableIn}
-use Rattle.netlist.specs.Net.{Table, Net, nowhere, noTable, spelled, size, nodeAt, elementAt, widthAt, source, operands, isInput, isRegister, isAsync, isClocked, countOf}
+use Rattle.netlist.specs.Net.{Table, Net, nowhere, noTable, size, nodeAt, elementAt, widthAt, source, operands, isInput, isRegister, isAsync, isClocked, countOf}
 use Rattle.circuit.specs.Code.{codeOf, elementBy, numberOr, tableOr, code-by, number-by, table-by, code-input, code-register, code-async, code-clocked}
 use Rattle.circuit.specs.Circuit.{field, atCode, atWidth, atCount, atNumber, atTable, atTurn, rowNode, rowAt, nodesOf, tablesOf, orderOf, netOf, Fits, Circuit}
 
@@ -143,71 +142,22 @@ pub record TableHead (s l : List ℕ) (k : ℕ) : Type 0 where
   pub wide : getD s (getD l (2 + k) 0 + 4) 0 ≡ getD (netOf s l .tables) k noTable .wide
 
 module _ (s l : List ℕ) (t : Circuit s l) (k : ℕ) where
-  head-byte : (i : ℕ) → i < lengthAt s (getD l (2 + k) 0) → getD (content s (getD l (2 + k) 0)) i 0 ≡ getD s (getD l (2 + k) 0 + 3 + i) 0
-  head-byte i h = getD-take (lengthAt s (getD l (2 + k) 0)) (drop (getD l (2 + k) 0 + 3) s) i 0 h ∙ getD-drop (getD l (2 + k) 0 + 3) s i 0
-
   pub table-head : k < length (tablesOf l) → TableHead s l k
   unfolding tableIn tableRead
   table-head h =
       let place : ℕ = getD l (2 + k) 0 in
       let at : TableAt s place = subst (TableAt s) (table-place l k h) (t .tables k h) in
-      let long : 2 ≤ lengthAt s place = omega (arith, content-length s place (at .inside), table-facts (content s place) (at .good) .full) in
+      let long : 2 ≤ lengthAt s place = omega (arith, content-length s place (at .inside), table-facts (tagAt s place) (content s place) (at .good) .long) in
       let same : getD (netOf s l .tables) k noTable ≡ tableIn s place = table-of s l k h in
       let z : place + 3 + 0 ≡ place + 3 = omega arith in
       let u : place + 3 + 1 ≡ place + 4 = omega arith in
       record {
         few = omega (arith, t .formed .few-tables);
         inside = omega (arith, at .inside);
-        bits = sym (ap (λ (x : Table). x .bits) same ∙ head-byte 0 (omega arith) ∙ ap (λ (j : ℕ). getD s j 0) z);
-        wide = sym (ap (λ (x : Table). x .wide) same ∙ head-byte 1 (omega arith) ∙ ap (λ (j : ℕ). getD s j 0) u);
+        bits = sym (ap (λ (x : Table). x .bits) same ∙ byte-in s place 0 (omega arith) ∙ ap (λ (j : ℕ). getD s j 0) z);
+        wide = sym (ap (λ (x : Table). x .wide) same ∙ byte-in s place 1 (omega arith) ∙ ap (λ (j : ℕ). getD s j 0) u);
       }
 
   -- past the last there is none
   pub no-table : length (tablesOf l) ≤ k → getD (netOf s l .tables) k noTable ≡ noTable
   no-table h = List·getD-eq-default (netOf s l .tables) noTable (omega (arith, tables-of s l))
-
--- ---- a word of a table
-
--- the word at a place of a field's content
-content-word : (s : List ℕ) (at i : ℕ) → i + 1 < lengthAt s at → word (content s at) i ≡ word s (at + 3 + i)
-content-word s at i h =
-    let next : at + 3 + (i + 1) ≡ at + 3 + i + 1 = omega arith in
-    ap₂ (λ (x y : ℕ). x * 256 + y)
-    (getD-take (lengthAt s at) (drop (at + 3) s) i 0 (omega arith) ∙ getD-drop (at + 3) s i 0)
-    (getD-take (lengthAt s at) (drop (at + 3) s) (i + 1) 0 h ∙ getD-drop (at + 3) s (i + 1) 0 ∙ ap (λ (k : ℕ). getD s k 0) next)
-
-pub record TableWord (s l : List ℕ) (k a : ℕ) : Type 0 where
-  pub few : k < 16
-  pub inside : getD l (2 + k) 0 + 5 + 2 * a + 1 < length s
-  pub is : word s (getD l (2 + k) 0 + 5 + 2 * a) ≡ getD (spelled (getD (netOf s l .tables) k noTable)) a 0
-
-module _ (s l : List ℕ) (t : Circuit s l) (k : ℕ) (h : k < length (netOf s l .tables)) (a : ℕ) (b : a < 2 ^ getD (netOf s l .tables) k noTable .bits) where
-  abbrev place : ℕ
-  place = getD l (2 + k) 0
-
-  numbered-table : k < length (tablesOf l)
-  numbered-table = omega (arith, tables-of s l)
-
-  stands : TableAt s place
-  stands = table-stands s l t k numbered-table
-
-  facts : TableFacts (content s place)
-  facts = table-facts (content s place) (stands .good)
-
-  long : lengthAt s place ≡ 2 + 2 * 2 ^ getD (content s place) 0 0
-  long = sym (content-length s place (stands .inside)) ∙ facts .full
-
-  low : a < 2 ^ getD (content s place) 0 0
-  unfolding tableIn tableRead
-  low = subst (λ (x : Table). a < 2 ^ x .bits) (table-of s l k numbered-table) b
-
-  pub table-word-law : TableWord s l k a
-  unfolding tableIn tableRead spelled
-  table-word-law = record {
-    few = omega (arith, numbered-table, t .formed .few-tables);
-    inside = omega (arith, stands .inside, long, low);
-    is =
-        (let e : place + 5 + 2 * a ≡ place + 3 + (2 + 2 * a) = omega arith in
-        ap (word s) e ∙ sym (content-word s place (2 + 2 * a) (omega (arith, long, low))) ∙ sym (getD-listed (wordAt (content s place)) (2 ^ getD (content s place) 0 0) a 0 low)
-        ∙ sym (ap (λ (x : Table). getD (spelled x) a 0) (table-of s l k numbered-table)));
-  }

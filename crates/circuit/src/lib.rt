@@ -1,5 +1,7 @@
 // The opened netlist in one slice of words: what it tells of a node and of a table, and how a node is put. Every pass goes by it.
-use words::word_at;
+mod tables;
+
+use tables::word_in;
 ghost use mathlib.Core.Path.{_≡_};
 ghost use Prim.Native.Nat.{_+_, _*_, _^_, _<_, _≤_};
 ghost use lib.ListN.{length, getD, set};
@@ -220,13 +222,12 @@ pub fn table_place(file: &[u8], net: &[u16], k: usize) -> usize
     wide(net[2 + k])
 }
 
-// The word of table k at an address.
+// The word of table k at an address: there is one for every address.
 pub fn table_word(file: &[u8], net: &[u16], k: usize, a: usize) -> u16
     requires { ⌜ Circuit (now file) (now net) × (k < length (netOf (now file) (now net) .tables)) × (a < 2 ^ getD (netOf (now file) (now net) .tables) k noTable .bits) ⌝ }
     ensures { λ r. ⌜ r ≡ getD (spelled (getD (netOf (now (file .entry)) (now (net .entry)) .tables) k noTable)) a 0 ⌝ }
 {
-    let place = wide(net[2 + k]);
-    word_at(file, place + 5 + 2 * a)
+    word_in(file, table_place(file, net, k), a)
 }
 
 // Puts node v after the v nodes that the circuit shows.

@@ -4,8 +4,7 @@ use mathlib.Core.Bool.{Bool, true, false}
 use mathlib.Core.List.{List, [], _∷_}
 use Prim.Native.Nat.{ℕ, _+_, _*_, _≤_, _<_}
 use native.Mathlib.Omega.{arith}
-use lib.ListN.{length, getD, drop}
-use lib.Seq.{getD-take, getD-drop}
+use lib.ListN.{length, getD}
 use lib.Dec.{ltb, eqb}
 use borrow.Author.Tests.{ltb-true, eqb-true, eqb-false}
 use Rattle.lists.specs.Paths.{pick, arms-eq, on-eq, off-eq}
@@ -16,7 +15,7 @@ use Rattle.netlist.specs.Net.{rom, operands}
 use Rattle.netlist.specs.Field.{lengthAt, content}
 use Rattle.netlist.specs.NodeField.{gateLength, firstSource, sourcesFrom, nodeRead, nodeWith}
 use Rattle.netlist.specs.NodeLaws.{node-facts}
-use Rattle.netlist.specs.TableLaws.{content-length}
+use Rattle.netlist.specs.FieldLaws.{content-length, byte-in, word-in}
 use Rattle.netlist.specs.ScanLaws.{NodeAt}
 use Rattle.netlist.specs.File.{nodeIn}
 use Rattle.netlist.specs.declared.Element.{Element}
@@ -29,24 +28,16 @@ use Rattle.nodes.specs.Code.{op-number}
 use Rattle.nodes.specs.Unchecked.{opUnchecked, elementUnchecked, is-register, is-async, is-clocked, is-gate, unchecked, Lengths, lengths}
 
 module _ (s : List ℕ) (at : ℕ) where
-  pub byte-in : (i : ℕ) → i < lengthAt s at → getD (content s at) i 0 ≡ getD s (at + 3 + i) 0
-  byte-in i h = getD-take (lengthAt s at) (drop (at + 3) s) i 0 h ∙ getD-drop (at + 3) s i 0
-
-  pub word-in : (i : ℕ) → i + 1 < lengthAt s at → word (content s at) i ≡ word s (at + 3 + i)
-  word-in i h =
-      let e : at + 3 + (i + 1) ≡ at + 3 + i + 1 = omega arith in
-      ap₂ (λ (x y : ℕ). x * 256 + y) (byte-in i (omega arith)) (byte-in (i + 1) h ∙ ap (λ (k : ℕ). getD s k 0) e)
-
   -- the same at a place of the file
   pub byte-is : (i j : ℕ) → j ≡ at + 3 + i → i < lengthAt s at → getD (content s at) i 0 ≡ getD s j 0
-  byte-is i j e h = byte-in i h ∙ ap (λ (k : ℕ). getD s k 0) (sym e)
+  byte-is i j e h = byte-in s at i h ∙ ap (λ (k : ℕ). getD s k 0) (sym e)
 
   pub word-is : (i j : ℕ) → j ≡ at + 3 + i → i + 1 < lengthAt s at → word (content s at) i ≡ word s j
-  word-is i j e h = word-in i h ∙ ap (word s) (sym e)
+  word-is i j e h = word-in s at i h ∙ ap (word s) (sym e)
 
   one-source : (b : Bool) (f j : ℕ) → (b ≡ true → f + j + 1 < lengthAt s at) → pick b (word s (at + 3 + f + j)) 0 ≡ pick b (word (content s at) (f + j)) 0
   unfolding pick
-  one-source true f j h = let e : at + 3 + f + j ≡ at + 3 + (f + j) = omega arith in ap (word s) e ∙ sym (word-in (f + j) (h refl))
+  one-source true f j h = let e : at + 3 + f + j ≡ at + 3 + (f + j) = omega arith in ap (word s) e ∙ sym (word-in s at (f + j) (h refl))
   one-source false f j h = refl
 
   -- the sources stand in the file as in the content
@@ -71,7 +62,7 @@ module _ (s : List ℕ) (at : ℕ) where
     long = omega (arith, node-facts (content s at) (p .good) .long, content-length s at (p .inside))
 
     pub kind-in : getD (content s at) 0 0 ≡ getD s (at + 3) 0
-    kind-in = let e : at + 3 + 0 ≡ at + 3 = omega arith in byte-in 0 (let l = long in omega arith) ∙ ap (λ (k : ℕ). getD s k 0) e
+    kind-in = let e : at + 3 + 0 ≡ at + 3 = omega arith in byte-in s at 0 (let l = long in omega arith) ∙ ap (λ (k : ℕ). getD s k 0) e
 
     pub shape : Lengths (content s at)
     shape = lengths (content s at) (p .good)
@@ -93,7 +84,7 @@ module _ (s : List ℕ) (at : ℕ) where
     node-in e w l a b d =
         let c = content s at in
         let x : e ≡ elementUnchecked c = a ∙ sym element-in in
-        let y : w ≡ getD c 1 0 = b ∙ sym (byte-in 1 long ∙ ap (λ (k : ℕ). getD s k 0) (let q : at + 3 + 1 ≡ at + 4 = omega arith in q)) in
+        let y : w ≡ getD c 1 0 = b ∙ sym (byte-in s at 1 long ∙ ap (λ (k : ℕ). getD s k 0) (let q : at + 3 + 1 ≡ at + 4 = omega arith in q)) in
         let z : l ≡ sourcesFrom c (firstSource (elementUnchecked c)) (operands (elementUnchecked c)) =
         d ∙ ap (λ (k : Element). sourcesFrom s (at + 3 + firstSource k) (operands k)) x ∙ sources-in (firstSource (elementUnchecked c)) (operands (elementUnchecked c)) sources-room in
         (λ i. record { element = x i; width = y i; sources = z i }) ∙ sym (ap (λ (r : ElementRead). nodeWith c r .node) (unchecked c (p .good)))

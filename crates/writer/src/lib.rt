@@ -77,7 +77,7 @@ pub fn put_end(out: &mut [u8], at: usize) -> usize
     put_start(out, at, 4, 0)
 }
 
-// The field of the table that stands at an offset of a file: how long it is, and its writing. Its content is copied.
+// The field of the table that stands at an offset of a file: how long it is, and its writing. It is copied as it came, whichever its tag.
 pub fn table_length(file: &[u8], from: usize) -> usize
     requires { ⌜ TableAt (now file) from ⌝ }
     ensures { λ r. ⌜ (r ≡ length (tableBytes (tableIn (now (file .entry)) from))) × (r ≤ 65538) ⌝ }
@@ -89,11 +89,8 @@ pub fn copy_table(file: &[u8], from: usize, out: &mut [u8], at: usize) -> usize
     requires { ⌜ TableAt (now file) from × (at + length (tableBytes (tableIn (now file) from)) ≤ length (now out)) ⌝ }
     ensures { λ r. ⌜ Puts (now (out .entry)) at (tableBytes (tableIn (now (file .entry)) from)) r (now (out .exit)) ⌝ }
 {
-    let size = word_at(file, from + 1);
-    let start = from + 3;
-    let end = start + size as usize;
-    let next = put_start(out, at, 2, size);
-    put_bytes(out, next, &file[start..end])
+    let end = from + table_length(file, from);
+    put_bytes(out, at, &file[from..end])
 }
 
 // The number of a kind.

@@ -6,7 +6,7 @@ use lib.ListN.{getD, drop}
 use Rattle.netlist.specs.Field.{content, lengthAt}
 use Rattle.netlist.specs.File.{nodeIn}
 use Rattle.netlist.specs.NodeLaws.{node-facts, node-width}
-use Rattle.netlist.specs.TableLaws.{content-length}
+use Rattle.netlist.specs.FieldLaws.{content-length}
 use borrow.Author.Needs.{needs}
 use lib.Seq.{getD-drop, getD-take}
 use Rattle.reader.proofs.width_at.Statement.{statement}

@@ -6,8 +6,8 @@ use lib.ListN.{length}
 use Rattle.lists.specs.Lists.{largest}
 use Rattle.words.specs.Words.{word}
 use native.Mathlib.Numerals.{add-one}
-use Rattle.reader.proofs.largest_word.Statement.{statement}
-use Rattle.reader.proofs.largest_word.Tie as tie
+use Rattle.reader.proofs.tables.largest_word.Statement.{statement}
+use Rattle.reader.proofs.tables.largest_word.Tie as tie
 
 abbrev Inv-loop : tie.InvT-loop
 Inv-loop words n most₀ i₀ most i = (i ≤ n) × (most ≡ largest i (λ a. word words (2 * a)))

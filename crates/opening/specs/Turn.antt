@@ -1,5 +1,6 @@
--- One turn of `fill_circuit`, over plain values. Assumes nothing.
+-- A file is read field by field into a circuit: what holds between two fields, and what a field makes of it. Assumes nothing.
 use mathlib.Core.Path.{_≡_, refl, sym, ap, ap₂, subst, _∙_}
+use mathlib.Core.Bool.{true, false}
 use mathlib.Core.List.{List, [], _∷_, _++_, map}
 use Prim.Native.Nat.{ℕ, zero, suc, _+_, _≤_, _<_}
 use native.Mathlib.Omega.{arith}
@@ -7,18 +8,20 @@ use lib.ListN.{length, length-append, length-map}
 use lib.Dec.{eqb}
 use borrow.Author.Tests.{eq-eqb}
 use Rattle.lists.specs.ListsLaws.{no-length, map-append}
-use Rattle.lists.specs.Paths.{on-true, on-lt, off-lt, off-eq}
-use Rattle.netlist.specs.Scan.{refused, found, follow, stepAt, walk, scan}
+use Rattle.lists.specs.Paths.{pick, arms, on-true, on-lt, off-lt, on-eq, off-eq}
+use Rattle.netlist.specs.Scan.{tableStep, nodeStep, endStep, Step, Refuse, TableField, NodeField, EndField, refused, found, follow, stepAt, walk, scan}
 use Rattle.netlist.specs.ScanLaws.{NodeAt, table-step, node-step, walk-step, scan-found}
-use Rattle.netlist.specs.File.{good, nodeIn, netIn, decode, decoded}
+use Rattle.netlist.specs.File.{bad, good, nodeIn, netIn, decode, decoded}
 use Rattle.netlist.specs.declared.Node.{Node}
-use Rattle.netlist.specs.declared.Step.{Step}
-use Rattle.netlist.specs.declared.Step.the-variants.{Refuse, TableField, NodeField, EndField}
+use Rattle.netlist.specs.declared.Verdict.{Verdict}
 use Rattle.netlist.specs.declared.Verdict.the-variants.{Fine, Refuses}
 use Rattle.circuit.specs.Circuit.{nodesOf}
 use Rattle.circuit.specs.Building.{Pushed, Built, built-net, built-circuit}
 use Rattle.reader.specs.Head.{Headed}
-use Rattle.opening.specs.Opening.{Filled, turned-away, read, built-node}
+use Rattle.reader.specs.Fields.{whole, tableStands, nodeStands, lastStep, verdictOf, step-table, step-node, step-last}
+use Rattle.opening.specs.declared.Read.{Read}
+use Rattle.opening.specs.declared.Read.the-variants.{Behind, Bad}
+use Rattle.opening.specs.Opening.{Filled, turned-away, read, filled-refused, built-node}
 
 module _ (s l : List ℕ) where
   refusal : {k p : ℕ} → refused k p ≡ scan s → Filled s l (Refuses k p)
@@ -149,3 +152,57 @@ module _ {s l : List ℕ} {at t n : ℕ} (w : Turn s l at t n) where
         enough = omega (arith, b .0, g);
         goes = f .2;
       }
+
+-- ---- the tables, the nodes, and what stands behind them
+
+-- all tables are read: one is bad (4), or no other stands there
+pub data TablesRead (s l : List ℕ) : Read → Type 0 where
+  bad-table : {p : ℕ} → decode s ≡ bad 4 p → TablesRead s l (Bad p)
+  tables-read : {at : ℕ} (t : ℕ) → Turn s l at t 0 → tableStands s at ≡ false → TablesRead s l (Behind at)
+
+-- all nodes are read: one is bad (5), or no other stands there
+pub data NodesRead (s l : List ℕ) : Read → Type 0 where
+  bad-node : {p : ℕ} → decode s ≡ bad 5 p → NodesRead s l (Bad p)
+  nodes-read : {at : ℕ} (t n : ℕ) → Turn s l at t n → (n ≡ 0 → tableStands s at ≡ false) → nodeStands s at ≡ false → NodesRead s l (Behind at)
+
+pub table-bad : {s l : List ℕ} {p : ℕ} → TablesRead s l (Bad p) → Filled s l (Refuses 4 p)
+table-bad (bad-table e) = turned-away e
+
+pub node-bad : {s l : List ℕ} {p : ℕ} → NodesRead s l (Bad p) → Filled s l (Refuses 5 p)
+node-bad (bad-node e) = turned-away e
+
+pub behind-tables : {s l : List ℕ} {at : ℕ} → TablesRead s l (Behind at) → (t : ℕ) × Turn s l at t 0 × (tableStands s at ≡ false)
+behind-tables (tables-read t w e) = (t, w, e)
+
+pub behind-inside : {s l : List ℕ} {at : ℕ} → NodesRead s l (Behind at) → (length s ≤ 46000) × (at ≤ length s)
+behind-inside (nodes-read t n w e f) = (w .small, w .inside)
+
+module _ {s l : List ℕ} {at t : ℕ} (w : Turn s l at t 0) (stands : tableStands s at ≡ true) {r : ℕ} (told : tableStep s at t 0 ≡ pick (eqb r 0) (Refuse 4 at) (TableField r)) where
+  -- a table that stands there is refused, or read
+  pub table-refused : r ≡ 0 → decode s ≡ bad 4 at
+  table-refused z = filled-refused (refuses w (step-table s at t 0 stands ∙ told ∙ sym (on-eq _ _ r 0 z refl))) refl
+
+  pub table-taken : (r ≡ 0 → ⊥) → stepAt s at t 0 ≡ TableField r
+  table-taken z = step-table s at t 0 stands ∙ told ∙ sym (off-eq _ _ r 0 z refl)
+
+module _ {s l : List ℕ} {at t n : ℕ} (w : Turn s l at t n) (stands : nodeStands s at ≡ true) {r : ℕ} (told : nodeStep s at n ≡ pick (eqb r 0) (Refuse 5 at) (NodeField r)) where
+  -- and a node
+  pub node-refused : r ≡ 0 → decode s ≡ bad 5 at
+  node-refused z = filled-refused (refuses w (step-node s at t n stands ∙ told ∙ sym (on-eq _ _ r 0 z refl))) refl
+
+  pub node-taken : (r ≡ 0 → ⊥) → stepAt s at t n ≡ NodeField r
+  node-taken z = step-node s at t n stands ∙ told ∙ sym (off-eq _ _ r 0 z refl)
+
+-- what stands behind both is the file's verdict
+pub last-filled : {s l : List ℕ} {at : ℕ} {r : Verdict} → NodesRead s l (Behind at) → r ≡ verdictOf (lastStep s at) → Filled s l r
+unfolding lastStep endStep
+last-filled {s} {l} {at} {r} (nodes-read t n w no-table no-node) e = subst (Filled s l) (sym e) (told (step-last s at t n no-table no-node))
+  where
+    P : Step → Type 0
+    P x = stepAt s at t n ≡ x → Filled s l (verdictOf x)
+
+    told : P (lastStep s at)
+    told =
+        arms P _ _ (whole s at)
+        (λ _. arms P _ _ _ (λ _. arms P _ _ _ (λ _. arms P _ _ _ (λ _. ends w) (λ _. refuses w)) (λ _. refuses w)) (λ _. refuses w))
+        (λ _. refuses w)

@@ -6,8 +6,8 @@ use borrow.Author.Needs.{needs}
 use native.Mathlib.Nat.{one-mul}
 use lib.Pow.{shl-exact, pow-mono}
 use lib.Dec.{lit<}
-use Rattle.reader.proofs.word_count.Statement.{statement}
-use Rattle.reader.proofs.word_count.Tie as tie
+use Rattle.reader.proofs.tables.word_count.Statement.{statement}
+use Rattle.reader.proofs.tables.word_count.Tie as tie
 
 shl-result : tie.Need-shl-result
 shl-result c = search needs
