@@ -14,17 +14,18 @@ pub struct Design {
 pub struct Words {
     pub address_bits: u8,
     pub width: u8,
+    pub fill: Option<u16>,
     pub words: Vec<u8>,
 }
 
 impl Design {
     pub fn table(&mut self, width: u8, words: &[u16]) -> u8 {
-        self.tables.push(Words {
-            address_bits: words.len().ilog2() as u8,
-            width,
-            words: words.iter().flat_map(|word| word.to_be_bytes()).collect(),
-        });
-        self.tables.len() as u8 - 1
+        self.any_table(words.len().ilog2() as u8, width, None, words)
+    }
+
+    /// A table whose addresses past the last word read the fill word.
+    pub fn filled_table(&mut self, address_bits: u8, width: u8, fill: u16, words: &[u16]) -> u8 {
+        self.any_table(address_bits, width, Some(fill), words)
     }
 
     pub fn node(&mut self, node: Node) -> u16 {
@@ -123,6 +124,7 @@ impl Design {
         let tables = self.tables.iter().map(|table| Table {
             address_bits: table.address_bits,
             width: table.width,
+            fill: table.fill,
             words: &table.words,
         });
         Netlist {
@@ -133,6 +135,16 @@ impl Design {
 
     pub fn file(&self) -> Vec<u8> {
         format::write(&self.netlist())
+    }
+
+    fn any_table(&mut self, address_bits: u8, width: u8, fill: Option<u16>, words: &[u16]) -> u8 {
+        self.tables.push(Words {
+            address_bits,
+            width,
+            fill,
+            words: words.iter().flat_map(|word| word.to_be_bytes()).collect(),
+        });
+        self.tables.len() as u8 - 1
     }
 
     fn plain(&mut self, kind: Kind, width: u8, word: u16, sources: &[u16]) -> u16 {

@@ -12,6 +12,7 @@ const TAG_HEAD: u8 = 1;
 const TAG_TABLE: u8 = 2;
 const TAG_NODE: u8 = 3;
 const TAG_END: u8 = 4;
+const TAG_FILLED_TABLE: u8 = 5;
 
 /// The kind byte of a gate. Its operation follows the width.
 const GATE: u8 = 5;
@@ -24,16 +25,35 @@ pub fn read(file: &[u8]) -> Result<Netlist<'_>, Refusal> {
     if field(file, 0)? != (TAG_HEAD, &[1]) {
         return refuse(TAG, 0);
     }
-    let mut offset = HEADER + 1;
+    let (tables, offset) = tables(file, HEADER + 1)?;
+    let nodes = nodes(file, offset)?;
+    Ok(Netlist { tables, nodes })
+}
+
+/// The tables from the offset on, and where the first field begins that is none.
+fn tables(file: &[u8], mut offset: usize) -> Result<(Vec<Table<'_>>, usize), Refusal> {
     let mut tables = Vec::new();
+    loop {
+        let (tag, content) = field(file, offset)?;
+        let table = match tag {
+            TAG_TABLE => table(content),
+            TAG_FILLED_TABLE => filled_table(content),
+            _ => return Ok((tables, offset)),
+        };
+        match table {
+            Some(table) if tables.len() < MAX_TABLES => tables.push(table),
+            _ => return refuse(TABLE, offset),
+        }
+        offset += HEADER + content.len();
+    }
+}
+
+/// The nodes from the offset on, behind which the file ends.
+fn nodes(file: &[u8], mut offset: usize) -> Result<Vec<Node>, Refusal> {
     let mut nodes = Vec::with_capacity(MAX_NODES);
     loop {
         let (tag, content) = field(file, offset)?;
         match tag {
-            TAG_TABLE if nodes.is_empty() => match table(content) {
-                Some(table) if tables.len() < MAX_TABLES => tables.push(table),
-                _ => return refuse(TABLE, offset),
-            },
             TAG_NODE => match node(content.len(), window(&file[offset + HEADER..])) {
                 Some(node) if nodes.len() < MAX_NODES => nodes.push(node),
                 _ => return refuse(NODE, offset),
@@ -43,8 +63,9 @@ pub fn read(file: &[u8]) -> Result<Netlist<'_>, Refusal> {
                 if end < file.len() {
                     return refuse(TAG, end);
                 }
-                return Ok(Netlist { tables, nodes });
+                return Ok(nodes);
             }
+            // A table among them: it comes too late.
             _ => return refuse(TAG, offset),
         }
         offset += HEADER + content.len();
@@ -63,23 +84,44 @@ fn field(file: &[u8], offset: usize) -> Result<(u8, &[u8]), Refusal> {
     refuse(SHORT, offset)
 }
 
+/// The content of a table that stores all its words.
 fn table(content: &[u8]) -> Option<Table<'_>> {
     let [address_bits @ 1..=10, width @ 1..=16, words @ ..] = content else {
         return None;
     };
-    if words.len() != 2 << address_bits {
-        return None;
-    }
-    // All words at once: one that is too wide leaves a high bit in their union. The order of
-    // the two bytes does not matter to a union, so they are put right once, at the end.
-    let union = words.chunks_exact(2).fold(0, |union, word| {
-        union | u16::from_ne_bytes([word[0], word[1]])
-    });
-    fits(u16::from_be(union), *width).then_some(Table {
+    let table = Table {
         address_bits: *address_bits,
         width: *width,
+        fill: None,
         words,
-    })
+    };
+    (words.len() == 2 << address_bits && all_fit(&table)).then_some(table)
+}
+
+/// The content of a table with a fill word, which stores one word at least and may store all.
+fn filled_table(content: &[u8]) -> Option<Table<'_>> {
+    let [address_bits @ 1..=10, width @ 1..=16, high, low, words @ ..] = content else {
+        return None;
+    };
+    let table = Table {
+        address_bits: *address_bits,
+        width: *width,
+        fill: Some(u16::from_be_bytes([*high, *low])),
+        words,
+    };
+    let (stored, odd) = words.as_chunks::<2>();
+    let is_length = odd.is_empty() && (1..=1 << address_bits).contains(&stored.len());
+    (is_length && all_fit(&table)).then_some(table)
+}
+
+/// Whether no word is too wide, the fill word among them, be it read or not.
+fn all_fit(table: &Table) -> bool {
+    // All words at once: one that is too wide leaves a high bit in their union. The order of
+    // the two bytes does not matter to a union, so they are put right once, at the end.
+    let union = table.words.chunks_exact(2).fold(0, |union, word| {
+        union | u16::from_ne_bytes([word[0], word[1]])
+    });
+    fits(u16::from_be(union) | table.fill.unwrap_or(0), table.width)
 }
 
 /// How the content of a node is laid out. Kind and width stand first; a gate's operation comes
@@ -176,14 +218,25 @@ fn node(length: usize, window: Window) -> Option<Node> {
     })
 }
 
+/// The length of a table's content.
+fn table_len(table: &Table) -> usize {
+    let fill = if table.fill.is_some() { 2 } else { 0 };
+    2 + fill + table.words.len()
+}
+
+/// Where the tables end in the netlist's file.
+pub fn tables_end(netlist: &Netlist) -> usize {
+    let tables = netlist.tables.iter().map(|t| HEADER + table_len(t));
+    HEADER + 1 + tables.sum::<usize>()
+}
+
 /// The length of the netlist's file.
 pub fn file_len(netlist: &Netlist) -> usize {
-    let tables = netlist.tables.iter().map(|t| HEADER + 2 + t.words.len());
     let nodes = netlist
         .nodes
         .iter()
         .map(|n| HEADER + LAYOUTS[n.kind as usize].length);
-    HEADER + 1 + tables.sum::<usize>() + nodes.sum::<usize>() + HEADER
+    tables_end(netlist) + nodes.sum::<usize>() + HEADER
 }
 
 /// The netlist's file. Any netlist can be written, also one that the reader refuses.
@@ -197,11 +250,18 @@ pub fn write(netlist: &Netlist) -> Vec<u8> {
 pub fn write_to(netlist: &Netlist, mut file: &mut [u8]) {
     put(&mut file, &[TAG_HEAD, 0, 1, 1]);
     for table in &netlist.tables {
-        let [high, low] = (2 + table.words.len() as u16).to_be_bytes();
+        let tag = match table.fill {
+            Some(_) => TAG_FILLED_TABLE,
+            None => TAG_TABLE,
+        };
+        let [high, low] = (table_len(table) as u16).to_be_bytes();
         put(
             &mut file,
-            &[TAG_TABLE, high, low, table.address_bits, table.width],
+            &[tag, high, low, table.address_bits, table.width],
         );
+        if let Some(fill) = table.fill {
+            put(&mut file, &fill.to_be_bytes());
+        }
         put(&mut file, table.words);
     }
     for node in &netlist.nodes {

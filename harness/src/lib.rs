@@ -18,6 +18,7 @@ pub mod random;
 pub mod refusal;
 pub mod rewrite;
 pub mod simulate;
+pub mod spelled_out;
 pub mod stack;
 pub mod vectors;
 pub mod workloads;
@@ -36,6 +37,22 @@ pub type Preview = fn(&[u8]) -> Result<Size, Refusal>;
 pub type OnBytes = fn(&[u8], &mut [u8]) -> Answer;
 /// A service on a file, its state, inputs and outputs: the run.
 pub type OneClock = fn(&[u8], &mut [u8], &[u8], &mut [u8]) -> Answer;
+
+/// The services that one side offers beyond the check: the harness or the product.
+pub struct Services {
+    pub reset: OnBytes,
+    pub run: OneClock,
+    pub rewrite: OnBytes,
+    pub preview: Preview,
+}
+
+/// The harness's own services.
+pub const OWN: Services = Services {
+    reset,
+    run,
+    rewrite,
+    preview,
+};
 
 /// The bytes in hexadecimal, to show a file that went wrong.
 pub fn hex(bytes: &[u8]) -> String {

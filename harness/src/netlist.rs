@@ -45,7 +45,9 @@ pub struct Node {
 pub struct Table<'a> {
     pub address_bits: u8,
     pub width: u8,
-    /// The words as they stand in the file, two bytes each.
+    /// What an address past the last stored word reads. A table without it stores all words.
+    pub fill: Option<u16>,
+    /// The stored words as they stand in the file, two bytes each.
     pub words: &'a [u8],
 }
 
@@ -106,8 +108,11 @@ impl Node {
 
 impl Table<'_> {
     pub fn word(&self, address: u16) -> u16 {
-        let at = 2 * usize::from(address);
-        u16::from_be_bytes([self.words[at], self.words[at + 1]])
+        let (words, _) = self.words.as_chunks();
+        match words.get(usize::from(address)) {
+            Some(word) => u16::from_be_bytes(*word),
+            None => self.fill.expect("without a fill word all are stored"),
+        }
     }
 }
 

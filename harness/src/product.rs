@@ -3,6 +3,8 @@
 #[cfg(feature = "rewrite")]
 use crate::preview::Size;
 use crate::refusal::{Answer, Refusal};
+#[cfg(feature = "rewrite")]
+use crate::Services;
 
 /// `struct punqelis_size`. Beside a refusal the other numbers are 0.
 #[cfg(feature = "rewrite")]
@@ -34,6 +36,14 @@ extern "C" {
     #[cfg(feature = "rewrite")]
     fn punqelis_preview(file: *const u8, file_len: usize) -> AnsweredSize;
 }
+
+#[cfg(feature = "rewrite")]
+pub const SERVICES: Services = Services {
+    reset,
+    run,
+    rewrite,
+    preview,
+};
 
 // Safety, for all calls below: each pointer and length belong to one slice that lives through
 // the call, and Rust's borrows see to it that a slice that is written overlaps with no other.

@@ -45,7 +45,7 @@ impl Vector {
 pub fn file() -> PathBuf {
     match std::env::var_os("PUNQELIS_VECTORS") {
         Some(file) => PathBuf::from(file),
-        None => Path::new(env!("CARGO_MANIFEST_DIR")).join("../vectors/t01.txt"),
+        None => Path::new(env!("CARGO_MANIFEST_DIR")).join("../vectors/t02.txt"),
     }
 }
 

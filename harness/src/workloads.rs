@@ -10,6 +10,7 @@ pub fn typical() -> Design {
     let shape = Shape {
         nodes: 800,
         tables: vec![(10, 16); 16],
+        filled: 0,
         inputs: 8,
         widths: vec![1, 10, 16],
         most_lead: 3,
@@ -27,6 +28,17 @@ pub fn typical() -> Design {
         .map(|seed| sized_netlist(&mut Random::new(seed), &shape, 900))
         .find(accepted)
         .expect("some seed gives one")
+}
+
+/// [`typical`] with tables that stop after 700 words; the next word is the fill word.
+pub fn filled() -> Design {
+    let mut design = typical();
+    for table in &mut design.tables {
+        let (words, _) = table.words.as_chunks();
+        table.fill = Some(u16::from_be_bytes(words[700]));
+        table.words.truncate(2 * 700);
+    }
+    design
 }
 
 /// A chain of gates, each behind its source: the best order for a run.

@@ -10,7 +10,7 @@ use harness::{hex, workloads, Refusal};
 
 /// A file of any sort, most of them with something wrong.
 fn any_file(random: &mut Random) -> Vec<u8> {
-    match random.below(10) {
+    match random.below(11) {
         0..=2 => random::netlist(random).file(),
         3..=5 => {
             let file = random::netlist(random).file();
@@ -24,7 +24,8 @@ fn any_file(random: &mut Random) -> Vec<u8> {
             true => random::closed_debt(random).file(),
             false => random::port_debt(random).file(),
         },
-        _ => random::grown(random).0.file(),
+        9 => random::grown(random).0.file(),
+        _ => random::changed_table(random).0,
     }
 }
 
@@ -32,6 +33,7 @@ fn any_file(random: &mut Random) -> Vec<u8> {
 fn workload_files() -> Vec<Vec<u8>> {
     let designs = [
         workloads::typical(),
+        workloads::filled(),
         workloads::forward_chain(1_000),
         workloads::backward_chain(1_000),
         workloads::deep_registers(),
@@ -62,10 +64,14 @@ fn cuts_and_changes(random: &mut Random, file: &[u8]) -> Vec<Vec<u8>> {
     others
 }
 
-/// A well-formed file of at most 250 bytes.
+/// A well-formed file of at most 250 bytes, every other one with a fill word.
 fn small_file(random: &mut Random) -> Vec<u8> {
+    let netlist = match random.chance(50) {
+        true => random::filled_netlist,
+        false => random::netlist,
+    };
     loop {
-        let file = random::netlist(random).file();
+        let file = netlist(random).file();
         if file.len() <= 250 {
             return file;
         }
@@ -259,8 +265,9 @@ mod runs {
     fn long_runs() {
         let mut random = Random::new(22);
         let mut tally = Tally::default();
-        let mut files = vec![(workloads::typical().file(), 1_000)];
-        while files.len() < 6 {
+        let large = [workloads::typical(), workloads::filled()];
+        let mut files = large.map(|design| (design.file(), 1_000)).to_vec();
+        while files.len() < 7 {
             let design = random::netlist(&mut random);
             let clocked = design.nodes.iter().filter(|n| n.kind.is_clocked()).count();
             if clocked > 5 && design.nodes.len() < 200 {
@@ -380,6 +387,18 @@ mod rewriting {
             }
         }
         tally.print("preview of every cut and byte");
+    }
+
+    /// Netlists whose tables have fill words against those with the tables spelled out, through
+    /// the product alone.
+    #[test]
+    fn filled_and_spelled_out_are_alike() {
+        let mut random = Random::new(34);
+        for _ in 0..1_000 {
+            let design = random::filled_netlist(&mut random);
+            let entries = [(); 20].map(|()| Entry::any(&mut random, &design.netlist()));
+            product::SERVICES.compare_spelled_out(&design, &entries);
+        }
     }
 
     /// The old and the rewritten file through the product alone, each over its own state, with

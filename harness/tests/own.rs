@@ -1,5 +1,6 @@
 //! The harness against itself: random material is as varied as it should be, leads are what
-//! they are defined to be, and old and rewritten netlists run alike.
+//! they are defined to be, old and rewritten netlists run alike, and so do tables with a fill
+//! word and the same tables spelled out.
 
 use std::hint::black_box;
 
@@ -8,12 +9,12 @@ use harness::design::Design;
 use harness::format::{self, MAX_FILE};
 use harness::leads::{chains, leads};
 use harness::netlist::{Kind, Netlist, MAX_NODES};
-use harness::random::{self, Random};
-use harness::refusal::{CLOSED_DEBT, GROWN, LOOP, PORT_DEBT, RING, SHORT};
+use harness::random::{self, Entry, Random};
+use harness::refusal::{CLOSED_DEBT, GROWN, LOOP, PORT_DEBT, RING, SHORT, TABLE, TAG};
 use harness::rewrite::{retimed, Retimed};
 use harness::simulate::{inputs_len, outputs_len, reset_checked, run_checked, state_len};
 use harness::stack::stack_use;
-use harness::{workloads, Size};
+use harness::{workloads, Size, OWN};
 
 fn rewrite_refusal(file: &[u8]) -> Option<u16> {
     let mut out = vec![0; MAX_FILE];
@@ -61,6 +62,47 @@ fn random_netlists_are_varied() {
     assert!(accepted > files * 9 / 10);
     assert!(early > files / 50 && split > files / 20 && long > files / 50 && largest > files / 100);
     assert!(operations.iter().all(|&gates| gates > files));
+}
+
+#[test]
+fn random_tables_are_varied() {
+    let mut random = Random::new(7);
+    let mut tables = 0;
+    let mut filled = 0;
+    // By how many words are stored: one, some, all but one, all. Of one address bit, one word
+    // is all but one.
+    let mut stored = [0; 4];
+    for _ in 0..3_000 {
+        let design = random::netlist(&mut random);
+        tables += design.tables.len();
+        for table in design.tables.iter().filter(|t| t.fill.is_some()) {
+            filled += 1;
+            let all = 1 << table.address_bits;
+            let words = table.words.len() / 2;
+            stored[0] += usize::from(words == 1);
+            stored[1] += usize::from(1 < words && words < all - 1);
+            stored[2] += usize::from(words == all - 1);
+            stored[3] += usize::from(words == all);
+        }
+    }
+    println!("{tables} tables, {filled} with a fill word; of these by stored words: {stored:?}");
+    assert!(filled > tables / 4 && filled < tables / 2);
+    assert!(stored.iter().all(|&tables| tables > filled / 10));
+}
+
+#[test]
+fn changed_tables_get_their_answers() {
+    let mut random = Random::new(8);
+    let mut answers = [0; 17];
+    for _ in 0..6_000 {
+        let (file, answer) = random::changed_table(&mut random);
+        assert_eq!(harness::check(&file), answer, "{}", harness::hex(&file));
+        answers[answer.err().map_or(0, |r| usize::from(r.number))] += 1;
+    }
+    println!("6000 changed tables by answer: {answers:?}");
+    for number in [0, TAG, TABLE] {
+        assert!(answers[usize::from(number)] > 500, "{number}");
+    }
 }
 
 #[test]
@@ -256,6 +298,17 @@ fn old_and_rewritten_run_alike() {
     println!("{clocks} clocks compared");
 }
 
+/// Netlists whose tables have fill words against those with the tables spelled out.
+#[test]
+fn filled_and_spelled_out_are_alike() {
+    let mut random = Random::new(9);
+    for _ in 0..1_000 {
+        let design = random::filled_netlist(&mut random);
+        let entries = [(); 20].map(|()| Entry::any(&mut random, &design.netlist()));
+        OWN.compare_spelled_out(&design, &entries);
+    }
+}
+
 #[test]
 fn stack_is_measured() {
     const BYTES: usize = 100 << 10;
@@ -272,8 +325,15 @@ fn workloads_are_what_they_say() {
     let typical = workloads::typical();
     assert_eq!(typical.nodes.len(), 900);
     assert_eq!(typical.tables.len(), 16);
-    let accepted: [(Design, usize); 6] = [
+    let filled = workloads::filled();
+    assert_eq!(filled.tables.len(), 16);
+    for table in &filled.tables {
+        assert_eq!((table.address_bits, table.width), (10, 16));
+        assert!(table.fill.is_some() && table.words.len() == 2 * 700);
+    }
+    let accepted: [(Design, usize); 7] = [
         (typical, 900),
+        (filled, 900),
         (workloads::deep_registers(), 1_024),
         (workloads::deep_shared_registers(), 903),
         (workloads::long_relaxation(), 1_002),

@@ -21,7 +21,11 @@ use harness::{
 use harness::format::MAX_FILE;
 
 fn main() {
-    typical();
+    services("16 tables of 1,024 words of 16 bits", workloads::typical());
+    services(
+        "16 tables of 700 words of 16 bits and a fill word",
+        workloads::filled(),
+    );
     #[cfg(feature = "run")]
     growth();
     #[cfg(feature = "rewrite")]
@@ -176,11 +180,11 @@ fn print_preview(name: &str, file: &[u8]) {
     println!("{line}  preview / rewrite {:5.2}", preview_to_rewrite(file));
 }
 
-fn typical() {
-    let design = workloads::typical();
+/// Every service on a netlist of all kinds of nodes, with such tables.
+fn services(tables: &str, design: Design) {
     let file = design.file();
     println!(
-        "{} nodes of all kinds, 16 tables of 1,024 words of 16 bits, {} bytes",
+        "{} nodes of all kinds, {tables}, {} bytes",
         design.nodes.len(),
         file.len()
     );

@@ -66,7 +66,7 @@ fn insert(file: &mut Vec<u8>, at: usize, bytes: &[u8]) {
 }
 
 /// Start and end of each field, as far as the file holds together; the last one may be cut.
-fn fields(file: &[u8]) -> Vec<(usize, usize)> {
+pub fn fields(file: &[u8]) -> Vec<(usize, usize)> {
     let mut fields = Vec::new();
     let mut start = 0;
     while start < file.len() {

@@ -1,14 +1,17 @@
 //! Random test material from a seed: well-formed netlists, ones built to be refused by the
 //! rewriter, and damaged files.
 
+mod changed_tables;
 mod damage;
 mod entries;
 mod netlists;
 mod refused;
+mod tables;
 
+pub use changed_tables::changed_table;
 pub use damage::{damaged, rewired};
 pub use entries::{inputs, other_length, other_number, widen, Entry};
-pub use netlists::{netlist, sized_netlist, Shape};
+pub use netlists::{filled_netlist, netlist, sized_netlist, Shape};
 pub use refused::{closed_debt, grown, port_debt};
 
 /// A small generator of random numbers (SplitMix64): the same seed gives the same numbers.

@@ -4,6 +4,7 @@
 //! leads are then at most the planned ones, so there is no debt; they reach them where ROMs
 //! follow each other without registers between.
 
+use super::tables::{table, FILLED};
 use super::Random;
 use crate::design::Design;
 use crate::netlist::{Kind, MAX_NODES};
@@ -15,6 +16,8 @@ pub struct Shape {
     pub nodes: usize,
     /// Address bits and word width of each table.
     pub tables: Vec<(u8, u8)>,
+    /// How often a table has a fill word.
+    pub filled: usize,
     pub inputs: usize,
     /// The widths that inputs, constants and the like come in.
     pub widths: Vec<u8>,
@@ -53,6 +56,7 @@ impl Shape {
         Shape {
             nodes: random.pick(&[3, 5, 10, 10, 20, 20, 40, 80, 150, 400]),
             tables,
+            filled: FILLED,
             inputs: random.pick(&[0, 1, 2, 2, 5]),
             widths,
             most_lead: random.pick(&[0, 1, 2, 4, 8, 12]),
@@ -75,6 +79,16 @@ pub fn netlist(random: &mut Random) -> Design {
         return sized_netlist(random, &shape, MAX_NODES);
     }
     grown_from(random, &shape, MAX_NODES)
+}
+
+/// A random netlist with a fill word in one table at least.
+pub fn filled_netlist(random: &mut Random) -> Design {
+    loop {
+        let design = netlist(random);
+        if design.tables.iter().any(|table| table.fill.is_some()) {
+            return design;
+        }
+    }
 }
 
 /// A random netlist of the shape, filled up with ports to exactly so many nodes.
@@ -143,8 +157,7 @@ impl<'g> Grower<'g> {
     fn new(random: &'g mut Random, shape: &'g Shape) -> Self {
         let mut design = Design::default();
         for &(bits, width) in &shape.tables {
-            let words: Vec<u16> = (0..1 << bits).map(|_| random.word(width)).collect();
-            design.table(width, &words);
+            table(random, &mut design, bits, width, shape.filled);
         }
         Grower {
             random,

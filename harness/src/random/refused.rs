@@ -1,6 +1,7 @@
 //! Netlists that pass the reader and are built to be refused by the rewriter.
 
 use super::netlists::{list, netlist};
+use super::tables::{table, FILLED};
 use super::Random;
 use crate::design::Design;
 use crate::netlist::{Kind, MAX_NODES, MAX_TABLES};
@@ -12,8 +13,7 @@ fn base(random: &mut Random) -> (Design, u8) {
         let mut design = netlist(random);
         if design.nodes.len() < MAX_NODES - 100 && design.tables.len() < MAX_TABLES {
             let bits = random.between(1, 4) as u8;
-            let words: Vec<u16> = (0..1 << bits).map(|_| random.word(bits)).collect();
-            let table = design.table(bits, &words);
+            let table = table(random, &mut design, bits, bits, FILLED);
             return (design, table);
         }
     }
@@ -109,8 +109,7 @@ pub fn grown(random: &mut Random) -> (Design, usize) {
 /// a clocked ROM with the registers of the ROM's own wire. Gives how many nodes these become.
 fn split(random: &mut Random, design: &mut Design) -> usize {
     let bits = random.between(1, 6) as u8;
-    let words: Vec<u16> = (0..1 << bits).map(|_| random.word(16)).collect();
-    let table = design.table(16, &words);
+    let table = table(random, design, bits, 16, FILLED);
     let mut address = design.input(bits);
     let before = random.below(6);
     for _ in 0..before {

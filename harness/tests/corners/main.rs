@@ -2,6 +2,8 @@
 //! gives them: through the harness's own implementation and through the product.
 
 mod field_by_field;
+mod fill_words;
+mod filled_tables;
 mod previews;
 mod rewriting;
 mod whole_netlist;
@@ -29,6 +31,21 @@ fn preview_is(file: &[u8], size: Result<Size, Refusal>) {
     assert_eq!(harness::preview(file), size, "own");
     #[cfg(feature = "rewrite")]
     assert_eq!(harness::product::preview(file), size, "product");
+}
+
+/// The rewritten file of one that is accepted.
+fn rewritten(file: &[u8]) -> Vec<u8> {
+    let mut out = vec![0xa5; 46_000];
+    let length = harness::rewrite(file, &mut out).expect("own");
+    rewrite_is(file, Ok(length));
+    #[cfg(feature = "rewrite")]
+    {
+        let mut other = vec![0xa5; 46_000];
+        assert_eq!(harness::product::rewrite(file, &mut other), Ok(length));
+        assert!(out == other, "the product rewrites to other bytes");
+    }
+    out.truncate(length);
+    out
 }
 
 /// What rewriting answers into an output as long as is wanted, and the preview with it.
