@@ -1,7 +1,9 @@
 /*
  * Punqelis: checks, runs, previews and rewrites netlist files.
  *
- * A netlist file describes a clocked circuit of ports, registers, ROMs and gates.
+ * A netlist file describes a clocked circuit of ports, registers, ROMs and gates. A ROM's table
+ * is a field of tag 2, with a word for every address, or of tag 5: address bits, width, a fill
+ * word and the first words; an address past the last word reads the fill word.
  * Link with libpunqelis.a, which `rt staticlib punqelis` writes to target/staticlib/.
  *
  * Every function answers one number, the preview three more beside it:
@@ -24,7 +26,8 @@
  *    1 long         the file has over 46,000 bytes                        place 0
  *    2 short        a field passes the file's end, or the end is missing  offset in the file
  *    3 tag          unknown tag, wrong order, bad head or end, or more    offset in the file
- *    4 table        bad size or length, 17th table, word too wide         offset in the file
+ *    4 table        bad size or length, 17th table of either tag,         offset in the file
+ *                   word or fill word too wide
  *    5 node         bad kind, operation, width or length, 1,025th node,   offset in the file
  *                   reset word or constant too wide
  *    6 source       no such node or table, or an output port as source    lowest such node
@@ -50,7 +53,7 @@
 #define PUNQELIS_REFUSAL(answer) ((answer) / 65536u)
 #define PUNQELIS_PLACE(answer) ((answer) % 65536u)
 
-/* No file that is accepted is longer. */
+/* No file that is accepted is longer. (The limits of document 01 and of tag 5 allow 45,175.) */
 #define PUNQELIS_MAX_FILE 46000
 
 #ifdef __cplusplus
@@ -76,9 +79,10 @@ uint32_t punqelis_run(const uint8_t *file, size_t file_len,
  * outputs from the first clock after reset on. Checks 1 to 10, then 11 to 14. Answers the new
  * file's length, which can be more or less than file_len; the bytes of out behind it stay.
  * out must not overlap with the file. PUNQELIS_MAX_FILE bytes are always enough for it, since
- * no rewritten file has over 45,143. The new file passes punqelis_check and has as many input
- * and output ports, in the same order. Its state has a length of its own: two bytes for each
- * of its nodes of kind 2 (register) and 4 (clocked ROM). */
+ * no rewritten file has over 45,175. The new file passes punqelis_check and has as many input
+ * and output ports, in the same order. Its tables are the old file's, field by field and byte
+ * by byte. Its state has a length of its own: two bytes for each of its nodes of kind 2
+ * (register) and 4 (clocked ROM). */
 uint32_t punqelis_rewrite(const uint8_t *file, size_t file_len,
                           uint8_t *out, size_t out_len);
 
