@@ -9,10 +9,10 @@ pub const MAX_FILE: usize = 46_000;
 const HEADER: usize = 3;
 
 const TAG_HEAD: u8 = 1;
-const TAG_TABLE: u8 = 2;
+pub const TAG_TABLE: u8 = 2;
 const TAG_NODE: u8 = 3;
 const TAG_END: u8 = 4;
-const TAG_FILLED_TABLE: u8 = 5;
+pub const TAG_FILLED_TABLE: u8 = 5;
 
 /// The kind byte of a gate. Its operation follows the width.
 const GATE: u8 = 5;

@@ -13,7 +13,6 @@ pub mod States
 pub mod History
 pub mod Alike
 pub mod Same
-pub mod SameRuns
 pub mod Respelled
 pub mod WordBytes
 pub mod Lending

@@ -6,8 +6,7 @@ use Rattle.netlist.specs.Net.{Table, Net, nodeAt, elementAt, widthAt, source, c
 use Rattle.netlist.specs.File.{good, decode, judged, fileVerdict}
 use Rattle.netlist.specs.Respelled.{TablesAlike, Respelled, over, respelled-is, respelled-verdict}
 use Rattle.behaviour.specs.Service.{resetFile, Entry, runsFile}
-use Rattle.behaviour.specs.Same.{Same}
-use Rattle.behaviour.specs.SameRuns.{reset-file-same, runs-file-same}
+use Rattle.behaviour.specs.Same.{Same, reset-file-same, runs-file-same}
 
 over-same : (N : Net) (us : List Table) → TablesAlike (N .tables) us → Same N (over us N)
 unfolding contentsAt contentsIn elementAt widthAt source nodeAt

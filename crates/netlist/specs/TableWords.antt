@@ -4,11 +4,12 @@ use mathlib.Core.List.{List}
 use Prim.Native.Nat.{ℕ, _+_, _-_, _*_, _/_, _^_, _≤_, _<_}
 use native.Mathlib.Omega.{arith}
 use lib.ListN.{length, getD}
+use Rattle.lists.specs.Paths.{pick}
 use Rattle.words.specs.Words.{word}
 use Rattle.netlist.specs.Net.{spelled}
 use Rattle.netlist.specs.Field.{tagAt, lengthAt, content}
 use Rattle.netlist.specs.FieldLaws.{content-length, word-in}
-use Rattle.netlist.specs.TableField.{wordAt, filledCount, tableRead}
+use Rattle.netlist.specs.TableField.{wordAt, filledCount, tableRead, storedFrom}
 use Rattle.netlist.specs.TableLaws.{TableFacts, BodyFacts, words, filled, table-facts, words-answer, stored-answer, fill-answer}
 use Rattle.netlist.specs.ScanLaws.{TableAt}
 use Rattle.netlist.specs.File.{tableIn}
@@ -37,6 +38,15 @@ module _ (s : List ℕ) (at : ℕ) (t : TableAt s at) where
   by-tag : (a : ℕ) {tag w : ℕ} → tagAt s at ≡ tag → getD (spelled (tableRead tag c)) a 0 ≡ w → getD (spelled (tableIn s at)) a 0 ≡ w
   unfolding tableIn
   by-tag a e h = ap (λ (k : ℕ). getD (spelled (tableRead k c)) a 0) e ∙ h
+
+  -- the stored words begin within the content
+  pub stored-inside : storedFrom (tagAt s at) ≤ lengthAt s at
+  unfolding pick
+  stored-inside = told (tagAt s at) (facts .body)
+    where
+      told : (tag : ℕ) → BodyFacts c tag → storedFrom tag ≤ lengthAt s at
+      told tag (words f g) = omega (arith, long)
+      told tag (filled f some few g) = omega (arith, long)
 
   -- the tags that a table's field has
   pub two-tags : (tagAt s at ≡ 2 → ⊥) → tagAt s at ≡ 5

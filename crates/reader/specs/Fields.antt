@@ -5,7 +5,7 @@ use mathlib.Core.Bool.{Bool, true, false, true≢false, false≢true}
 use mathlib.Core.List.{List}
 use Prim.Native.Nat.{ℕ, _+_, _≤_, _<_}
 use native.Mathlib.Omega.{arith}
-use lib.ListN.{length}
+use lib.ListN.{length, getD}
 use lib.Dec.{ltb, eqb}
 use borrow.Author.Tests.{eqb-true, eq-eqb}
 use Rattle.lists.specs.Paths.{pick, arms, arms-lt, arms-eq, on-true, on-false, on-lt, off-lt, on-eq, off-eq}
@@ -14,6 +14,10 @@ use Rattle.netlist.specs.Field.{tagAt, fieldEnd}
 use Rattle.netlist.specs.declared.Verdict.{Verdict}
 use Rattle.netlist.specs.declared.Verdict.the-variants.{Fine, Refuses}
 use Rattle.netlist.specs.Scan.{Step, Refuse, TableField, NodeField, EndField, tableStep, nodeStep, endStep, stepAt}
+
+-- a table's content that has address bits and width, and neither is too large
+abbrev pub Sized : List ℕ → Type 0
+Sized c = (2 ≤ length c) × (getD c 0 0 ≤ 10) × (getD c 1 0 ≤ 16)
 
 -- a field that is not cut off
 unfoldable pub whole : List ℕ → ℕ → Bool
@@ -30,7 +34,7 @@ nodeStands s at = pick (whole s at) (eqb (tagAt s at) 3) false
 unfoldable pub lastStep : List ℕ → ℕ → Step
 lastStep s at = pick (whole s at) (pick (eqb (tagAt s at) 4) (endStep s at) (Refuse 3 at)) (Refuse 2 at)
 
--- what it says of the file
+-- what it says of the file: it is never a table or a node
 abbrev pub verdictOf : Step → Verdict
 verdictOf (Refuse k p) = Refuses k p
 verdictOf (TableField next) = Fine

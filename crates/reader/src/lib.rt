@@ -67,7 +67,7 @@ pub fn table_stands(file: &[u8], at: usize) -> bool
     }
 }
 
-// The offset behind it, after t tables, where no node has come yet; 0 where 4 refuses it.
+// The offset behind a whole table field, after t tables, where no node has come yet; 0 where 4 refuses it.
 pub fn table_end(file: &[u8], at: usize, t: usize) -> usize
     requires { ⌜ (length (now file) ≤ 46000) × (fieldEnd (now file) at ≤ length (now file)) ⌝ }
     ensures { λ r. ⌜ tableStep (now (file .entry)) at t 0 ≡ pick (eqb r 0) (Refuse 4 at) (TableField r) ⌝ }
@@ -97,7 +97,7 @@ pub fn node_stands(file: &[u8], at: usize) -> bool
     }
 }
 
-// The offset behind it, after n nodes; 0 where 5 refuses it.
+// The offset behind a whole node field, after n nodes; 0 where 5 refuses it.
 pub fn node_end(file: &[u8], at: usize, n: usize) -> usize
     requires { ⌜ (length (now file) ≤ 46000) × (fieldEnd (now file) at ≤ length (now file)) ⌝ }
     ensures { λ r. ⌜ nodeStep (now (file .entry)) at n ≡ pick (eqb r 0) (Refuse 5 at) (NodeField r) ⌝ }

@@ -3,10 +3,11 @@ use words::fits_width;
 use words::word_at;
 ghost use mathlib.Core.Path.{_≡_};
 ghost use Prim.Native.Nat.{_*_, _/_, _^_, _≤_, max};
-ghost use lib.ListN.{length, getD};
+ghost use lib.ListN.{length};
 ghost use Rattle.lists.specs.Lists.{largest, allBelow};
 ghost use Rattle.words.specs.Words.{fits, word};
 ghost use Rattle.netlist.specs.TableField.{wordsGood, filledGood, bodyGood, tableGood};
+ghost use Rattle.reader.specs.Fields.{Sized};
 
 fn larger(a: u16, b: u16) -> u16
     ensures { λ r. ⌜ r ≡ max a b ⌝ }
@@ -50,7 +51,7 @@ fn word_count(bits: u8) -> usize
 
 // Tag 2: a word for each address.
 fn words_good(c: &[u8]) -> bool
-    requires { ⌜ (2 ≤ length (now c)) × (getD (now c) 0 0 ≤ 10) × (getD (now c) 1 0 ≤ 16) ⌝ }
+    requires { ⌜ Sized (now c) ⌝ }
     ensures { λ r. ⌜ r ≡ wordsGood (now (c .entry)) ⌝ }
 {
     if c.len() != 2 + 2 * word_count(c[0]) {
@@ -61,7 +62,7 @@ fn words_good(c: &[u8]) -> bool
 
 // Tag 5: a fill word, then from one word to a word for each address.
 fn filled_good(c: &[u8]) -> bool
-    requires { ⌜ (2 ≤ length (now c)) × (getD (now c) 0 0 ≤ 10) × (getD (now c) 1 0 ≤ 16) ⌝ }
+    requires { ⌜ Sized (now c) ⌝ }
     ensures { λ r. ⌜ r ≡ filledGood (now (c .entry)) ⌝ }
 {
     let len = c.len();
@@ -81,7 +82,7 @@ fn filled_good(c: &[u8]) -> bool
 
 // What follows address bits and width.
 fn body_good(tag: u8, c: &[u8]) -> bool
-    requires { ⌜ (2 ≤ length (now c)) × (getD (now c) 0 0 ≤ 10) × (getD (now c) 1 0 ≤ 16) ⌝ }
+    requires { ⌜ Sized (now c) ⌝ }
     ensures { λ r. ⌜ r ≡ bodyGood tag (now (c .entry)) ⌝ }
 {
     match tag {

@@ -13,7 +13,7 @@ use Rattle.netlist.specs.Verdict.{atLowest, ofWhole, verdict}
 use Rattle.netlist.specs.File.{tableBytes, nodeBytes, encode}
 use Rattle.netlist.specs.Respelled.{Respelled, over, respelled-is}
 use Rattle.behaviour.specs.Run.{zeroWord}
-use Rattle.behaviour.specs.SameRuns.{zero-same}
+use Rattle.behaviour.specs.Same.{zero-same}
 use Rattle.behaviour.specs.Respelled.{respelled-same}
 use Rattle.retiming.specs.Leads.{asyncHere, registerHere, asked, relax, leadsAfter, leads, lead, closedDebt, owingPort}
 use Rattle.retiming.specs.Rewrite.{Timing, rootIn, passedIn, root, passed, ownHere, memoryAt, stays, oldOn, registersOn, countOn, newTables, newTable, resetWord, copyOn, copiesAt, copiesOf, copies}
@@ -58,11 +58,14 @@ respelled-debt {N} {M} r =
 
 -- ---- the tables of a file
 
--- a file with these table fields: head, tables, and what follows them
+-- a file with these table fields: head, tables, and what follows them; of a netlist's file nodes and end
 abbrev pub withTables : List Table → List ℕ → List ℕ
 withTables ts rest = field 1 (1 ∷ []) ++ (concatMap tableBytes ts ++ rest)
 
-pub encode-parts : (N : Net) → encode N ≡ withTables (N .tables) (concatMap nodeBytes (N .nodes) ++ field 4 [])
+abbrev pub behindTables : Net → List ℕ
+behindTables N = concatMap nodeBytes (N .nodes) ++ field 4 []
+
+pub encode-parts : (N : Net) → encode N ≡ withTables (N .tables) (behindTables N)
 unfolding encode
 encode-parts N = ap (λ (l : List ℕ). field 1 (1 ∷ []) ++ l) (append-assoc (concatMap tableBytes (N .tables)) (concatMap nodeBytes (N .nodes)) (field 4 []))
 

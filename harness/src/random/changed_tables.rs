@@ -5,7 +5,7 @@ use super::netlists::netlist;
 use super::tables::table;
 use super::Random;
 use crate::design::{Design, Words};
-use crate::format;
+use crate::format::{self, TAG_FILLED_TABLE, TAG_TABLE};
 use crate::netlist::{mask, MAX_TABLES};
 use crate::refusal::{refuse, Answer, TABLE, TAG};
 
@@ -14,9 +14,6 @@ const TAG_AT: usize = 0;
 const BITS_AT: usize = 3;
 const WIDTH_AT: usize = 4;
 const WORDS_AT: usize = 5;
-
-const WITHOUT_FILL: u8 = 2;
-const WITH_FILL: u8 = 5;
 
 /// A file with a changed table, and the check's answer.
 pub fn changed_table(random: &mut Random) -> (Vec<u8>, Answer) {
@@ -56,9 +53,9 @@ fn retagged(random: &mut Random) -> (Vec<u8>, Answer) {
     let (mut file, table, start, _) = one_table(random);
     let stored = table.words.len() / 2;
     let (tag, answer) = match table.fill {
-        None => (WITH_FILL, Ok(file.len())),
-        Some(_) if stored + 1 == 1 << table.address_bits => (WITHOUT_FILL, Ok(file.len())),
-        Some(_) => (WITHOUT_FILL, refuse(TABLE, start)),
+        None => (TAG_FILLED_TABLE, Ok(file.len())),
+        Some(_) if stored + 1 == 1 << table.address_bits => (TAG_TABLE, Ok(file.len())),
+        Some(_) => (TAG_TABLE, refuse(TABLE, start)),
     };
     file[start + TAG_AT] = tag;
     (file, answer)
@@ -107,7 +104,7 @@ fn any_field(random: &mut Random) -> Vec<u8> {
 /// Makes one thing wrong with a good table's field.
 fn spoil(random: &mut Random, field: &mut Vec<u8>) {
     let first = match field[TAG_AT] {
-        WITH_FILL => WORDS_AT + 2,
+        TAG_FILLED_TABLE => WORDS_AT + 2,
         _ => WORDS_AT,
     };
     let all = 2 << field[BITS_AT];

@@ -5,10 +5,9 @@ use native.Mathlib.Omega.{arith}
 use lib.ListN.{take, drop}
 use lib.Seq.{drop-drop}
 use Rattle.lists.specs.Parts.{drop-take}
-use Rattle.netlist.specs.Field.{tagAt, lengthAt, content}
-use Rattle.netlist.specs.FieldLaws.{content-length}
+use Rattle.netlist.specs.Field.{tagAt, lengthAt}
 use Rattle.netlist.specs.TableField.{storedFrom}
-use Rattle.netlist.specs.TableLaws.{stored-inside}
+use Rattle.netlist.specs.TableWords.{stored-inside}
 use borrow.Author.Needs.{needs}
 use Rattle.reader.proofs.table_part.Statement.{statement}
 use Rattle.reader.proofs.table_part.Tie as tie
@@ -41,22 +40,10 @@ add-to-2 : tie.Need-add-to-2
 add-to-2 c = search needs
 
 sub-result : tie.Need-sub-result
-sub-result c =
-    let s = c .before .before .before .before .args .file .now in
-    let at = c .before .before .before .before .args .at in
-    let p = c .before .before .before .before .pre in
-    let l = content-length s at (p .inside) in
-    let f = stored-inside (tagAt s at) (content s at) (p .good) in
-    omega (arith, c .word-at .ensures, c .before .stored-from .ensures .0)
+sub-result c = omega (arith, stored-inside _ _ (c .before .before .before .before .pre), c .word-at .ensures, c .before .stored-from .ensures .0)
 
 part-result-start : tie.Need-part-result-start
-part-result-start c =
-    let s = c .before .before .before .before .args .file .now in
-    let at = c .before .before .before .before .args .at in
-    let p = c .before .before .before .before .pre in
-    let l = content-length s at (p .inside) in
-    let f = stored-inside (tagAt s at) (content s at) (p .good) in
-    omega (arith, c .word-at .ensures, c .before .stored-from .ensures .0)
+part-result-start c = omega (arith, stored-inside _ _ (c .before .before .before .before .pre), c .word-at .ensures, c .before .stored-from .ensures .0)
 
 part-result-end : tie.Need-part-result-end
 part-result-end c = search needs
@@ -65,9 +52,7 @@ returns : tie.Need-returns
 returns c =
     let s = c .before .before .before .before .before .args .file .now in
     let at = c .before .before .before .before .before .args .at in
-    let p = c .before .before .before .before .before .pre in
-    let l = content-length s at (p .inside) in
-    let f = stored-inside (tagAt s at) (content s at) (p .good) in
+    let f = stored-inside s at (c .before .before .before .before .before .pre) in
     let w : c .before .word-at .result ≡ lengthAt s at = c .before .word-at .ensures in
     let k : ℕ = storedFrom (tagAt s at) in
     let e : c .before .before .stored-from .result ≡ k = c .before .before .stored-from .ensures .0 in
