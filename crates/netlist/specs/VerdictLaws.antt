@@ -1,6 +1,6 @@
--- The reader finds nothing to refuse just where the netlist is well formed. Assumes nothing.
+-- Verdicts, one after the other; and the reader finds nothing to refuse just where the netlist is well formed. Assumes nothing.
 use mathlib.Core.Path.{_≡_, refl, sym, ap, _∙_}
-use mathlib.Core.Logic.{_↔_, ⊎-elim}
+use mathlib.Core.Logic.{_↔_, _⊎_, inl, inr, ⊎-elim}
 use mathlib.Core.Bool.{Bool, true, false, not, _&&_, _||_, true≢false, false≢true}
 use mathlib.Core.List.{List, [], _∷_}
 use Prim.Native.Nat.{ℕ, _+_, _<_}
@@ -17,8 +17,9 @@ use Rattle.lists.specs.BelowLaws.{T→true, true→T, true-or-false, and-left, 
 use Rattle.netlist.specs.Net.{Table, tableNo, Net, size, elementAt, widthAt, source, operands, isInput, isOutput, Class, inRegisters, inClock, Sourced}
 use Rattle.netlist.specs.Reach.{Reads, readsTest}
 use Rattle.netlist.specs.Reach.{reachesItself}
+use Rattle.netlist.specs.declared.Verdict.{Verdict}
 use Rattle.netlist.specs.declared.Verdict.the-variants.{Fine, Refuses}
-use Rattle.netlist.specs.Verdict.{tableThere, badSource, opWidths, memoryRight, widthsRight, badWidth, unread, inLoop, inRing, Stage, verdict, readerStages, readerVerdict}
+use Rattle.netlist.specs.Verdict.{tableThere, badSource, opWidths, memoryRight, widthsRight, badWidth, unread, inLoop, inRing, Stage, verdict, onward, readerStages, readerVerdict}
 use Rattle.netlist.specs.Rank.{Through, once, then}
 use Rattle.netlist.specs.Checks.{OpWidths, MemoryWidths, ElementWidths, HasTable, tableIn, SourcesRight, WidthsRight, HasReader, FieldsFit, WellFormed}
 use Rattle.netlist.specs.ReachLaws.{reaches-itself-iff}
@@ -121,10 +122,22 @@ there-table ts (Async m) h = T→true (lt→ltb (tableNo m) (length ts) h)
 there-table ts (Clocked m r) h = T→true (lt→ltb (tableNo m) (length ts) h)
 there-table ts (Gate o) h = refl
 
--- ---- a stage
+-- ---- a verdict
 
 pub refuses-not : {a b : ℕ} → Refuses a b ≡ Fine → ⊥
 refuses-not e = let z : _≡_ {A = ℕ} 0 1 = cc in omega arith
+
+-- ---- checks that go on to others
+
+pub both-fine : (v w : Verdict) → onward v w ≡ Fine → (v ≡ Fine) × (w ≡ Fine)
+both-fine Fine w e = (refl, e)
+both-fine (Refuses k p) w e = absurd (refuses-not e)
+
+pub first-or-next : (v w : Verdict) {k p : ℕ} → onward v w ≡ Refuses k p → (v ≡ Refuses k p) ⊎ ((v ≡ Fine) × (w ≡ Refuses k p))
+first-or-next Fine w e = inr (refl, e)
+first-or-next (Refuses m q) w e = inl e
+
+-- ---- a list of stages
 
 -- nothing is bad
 abbrev pub Clear : List Stage → Type 0

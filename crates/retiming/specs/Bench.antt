@@ -1,11 +1,11 @@
--- The bench netlists of document 01 that are marked P, and one of T-02, in one list: a file's bytes in; the refusal, or the rewritten bytes, the leads and the output words of the
--- first clocks out; and the preview. One computation checks them all. Assumes nothing.
+-- The bench netlists of document 01 that are marked P, and one of T-02 and one of T-03, in one list: a file's bytes in; the refusal, or the rewritten bytes, the leads and the output words of the
+-- first clocks out; the preview, with the registers by source; and these by reader, counted in the new file. One computation checks them all. Assumes nothing.
 use mathlib.Core.Path.{_≡_, refl}
 use mathlib.Core.Logic.{⊎-elim}
 use mathlib.Core.Bool.{true, not}
 use mathlib.Core.List.{List, [], _∷_, _++_, map}
 use Prim.Native.Nat.{ℕ, _*_, _≤_}
-use lib.ListN.{length, getD, take, replicate, List·getD-eq-default}
+use lib.ListN.{length, getD, take, drop, replicate, List·getD-eq-default}
 use lib.Dec.{ltb, lit<}
 use borrow.Author.Tests.{ltb-true}
 use Rattle.lists.specs.Lists.{select, allBelow}
@@ -22,7 +22,8 @@ use Rattle.retiming.specs.declared.Preview.the-variants.{Fits}
 use Rattle.retiming.specs.declared.Preview.the-variants as preview
 use Rattle.retiming.specs.Leads.{lead}
 use Rattle.retiming.specs.FileRewrite.{Rewrote, rewrittenFile, rewriteFile}
-use Rattle.retiming.specs.Preview.{previewFile}
+use Rattle.retiming.specs.BySource.{byReader}
+use Rattle.retiming.specs.Preview.{Previewed, previewFile}
 use Rattle.retiming.specs.Demand3.{demand-3}
 use Rattle.retiming.specs.Computing.{computing}
 
@@ -43,6 +44,8 @@ pub record Case : Type 0 where
   pub clocks : List Clock
   pub gives : Gives
   pub preview : Preview
+  pub sources : List ℕ
+  pub readers : List ℕ
 
 -- ---- what the definitions say
 
@@ -50,37 +53,63 @@ leadsIn : Decoded → List ℕ
 leadsIn (bad k p) = []
 leadsIn (good N) = select (λ v. not (isRegister (elementAt N v))) (lead N) (size N)
 
+-- the registers by reader of a file's netlist
+readersIn : Decoded → List ℕ
+readersIn (bad k p) = []
+readersIn (good M) = byReader M
+
+-- the list that the preview is lent: room for five numbers and one byte
+lent : List ℕ
+lent = replicate 11 255
+
 -- the output words of these clocks from reset on; the lent state and the lent output lists are full of ones
 outputWords : List ℕ → List Clock → List (List ℕ)
 outputWords s cs =
     map (λ x. wordsIn (x .outputs))
     (runsFile s (resetFile s (replicate (stateBytes s) 255) .state) (map (λ c. record { inputs = bytesOf (c .inputs); outputs = replicate (2 * length (c .outputs)) 255 }) cs))
 
--- into an output of 100 bytes: the answer, and the words of the old file and of the new one; before it, the preview
+-- before it, the preview; into an output of 100 bytes: the answer, the registers by reader of the new file, and the words of the old file and of the new one
 pub record Found : Type 0 where
-  pub preview : Preview
+  pub previewed : Previewed
   pub gives : Gives
+  pub readers : List ℕ
   pub old : List (List ℕ)
   pub new : List (List ℕ)
 
 foundBy : Rewrote → Answer → Case → Found
-foundBy r (Refused k p) c = record { preview = previewFile (c .file); gives = refusal k p; old = []; new = [] }
-foundBy r (Accepted n) c = record { preview = previewFile (c .file); gives = result (take n (r .out)) (leadsIn (decode (c .file))); old = outputWords (c .file) (c .clocks); new = outputWords (take n (r .out)) (c .clocks) }
+foundBy r (Refused k p) c = record { previewed = previewFile (c .file) lent; gives = refusal k p; readers = []; old = []; new = [] }
+foundBy r (Accepted n) c = record {
+  previewed = previewFile (c .file) lent;
+  gives = result (take n (r .out)) (leadsIn (decode (c .file)));
+  readers = readersIn (decode (take n (r .out)));
+  old = outputWords (c .file) (c .clocks);
+  new = outputWords (take n (r .out)) (c .clocks);
+}
 
 pub found : Case → Found
 found c = let r = rewriteFile (c .file) (replicate 100 0) in foundBy r (r .answer) c
 
 pub expected : Case → Found
-expected c = record { preview = c .preview; gives = c .gives; old = map (λ k. k .outputs) (c .clocks); new = map (λ k. k .outputs) (c .clocks) }
+expected c = record {
+  previewed = record { preview = c .preview; list = bytesOf (c .sources) ++ drop (2 * length (c .sources)) lent };
+  gives = c .gives;
+  readers = c .readers;
+  old = map (λ k. k .outputs) (c .clocks);
+  new = map (λ k. k .outputs) (c .clocks);
+}
 
 -- ---- the netlists, in document 01's order
 
 clock : List ℕ → List ℕ → Clock
 clock ins outs = record { inputs = ins; outputs = outs }
 
--- clocked ROMs, registers, length, largest lead
-sized : ℕ → ℕ → ℕ → ℕ → Preview
-sized c r n m = Fits (record { clocked = c; registers = r; length = n; lead = m })
+-- clocked ROMs, registers, length, largest lead, nodes that are no registers
+sized : ℕ → ℕ → ℕ → ℕ → ℕ → Preview
+sized c r n m k = Fits (record { clocked = c; registers = r; length = n; lead = m; sources = k })
+
+-- refused, and by the preview likewise
+refused : List ℕ → ℕ → ℕ → Case
+refused file k p = record { file = file; clocks = []; gives = refusal k p; preview = preview.Refused k p; sources = []; readers = [] }
 
 -- empty: `01 00 01 01 04 00 00` gives itself
 empty : Case
@@ -93,7 +122,9 @@ empty = record {
       (0x01 ∷ 0x00 ∷ 0x01 ∷ 0x01
       ∷ 0x04 ∷ 0x00 ∷ 0x00 ∷ [])
       [];
-  preview = sized 0 0 7 0;
+  preview = sized 0 0 7 0 0;
+  sources = [];
+  readers = [];
 }
 
 -- adder (document 000, figure 1): outputs 1,2,0,3,1. Leads: ROM 1, add 0. The field of its table stands in both files; the new one's length is n
@@ -118,7 +149,9 @@ adderOver table n = record {
       ∷ 0x03 ∷ 0x00 ∷ 0x06 ∷ 0x02 ∷ 0x02 ∷ 0x00 ∷ 0x01 ∷ 0x00 ∷ 0x01
       ∷ 0x04 ∷ 0x00 ∷ 0x00 ∷ []))
       (1 ∷ 0 ∷ 0 ∷ []);
-  preview = sized 1 2 n 1;
+  preview = sized 1 2 n 1 3;
+  sources = 0 ∷ 2 ∷ 0 ∷ [];
+  readers = 0 ∷ 1 ∷ 1 ∷ [];
 }
 
 -- its table 3, 1, 2, 2; and, T-02, the same as 3, 1 and the fill word 2
@@ -146,23 +179,22 @@ toggle = record {
       ∷ 0x03 ∷ 0x00 ∷ 0x04 ∷ 0x01 ∷ 0x01 ∷ 0x00 ∷ 0x00
       ∷ 0x04 ∷ 0x00 ∷ 0x00 ∷ [])
       (1 ∷ 0 ∷ []);
-  preview = sized 1 0 33 1;
+  preview = sized 1 0 33 1 2;
+  sources = 0 ∷ 0 ∷ [];
+  readers = 0 ∷ 0 ∷ [];
 }
 
 -- input, asynchronous ROM, output: 12
 bare : Case
-bare = record {
-  file =
-      0x01 ∷ 0x00 ∷ 0x01 ∷ 0x01
-      ∷ 0x02 ∷ 0x00 ∷ 0x0A ∷ 0x02 ∷ 0x02 ∷ 0x00 ∷ 0x03 ∷ 0x00 ∷ 0x01 ∷ 0x00 ∷ 0x02 ∷ 0x00 ∷ 0x02
-      ∷ 0x03 ∷ 0x00 ∷ 0x02 ∷ 0x00 ∷ 0x02
-      ∷ 0x03 ∷ 0x00 ∷ 0x05 ∷ 0x03 ∷ 0x02 ∷ 0x00 ∷ 0x00 ∷ 0x00
-      ∷ 0x03 ∷ 0x00 ∷ 0x04 ∷ 0x01 ∷ 0x02 ∷ 0x00 ∷ 0x01
-      ∷ 0x04 ∷ 0x00 ∷ 0x00 ∷ [];
-  clocks = [];
-  gives = refusal 12 0;
-  preview = preview.Refused 12 0;
-}
+bare =
+    refused
+    (0x01 ∷ 0x00 ∷ 0x01 ∷ 0x01
+    ∷ 0x02 ∷ 0x00 ∷ 0x0A ∷ 0x02 ∷ 0x02 ∷ 0x00 ∷ 0x03 ∷ 0x00 ∷ 0x01 ∷ 0x00 ∷ 0x02 ∷ 0x00 ∷ 0x02
+    ∷ 0x03 ∷ 0x00 ∷ 0x02 ∷ 0x00 ∷ 0x02
+    ∷ 0x03 ∷ 0x00 ∷ 0x05 ∷ 0x03 ∷ 0x02 ∷ 0x00 ∷ 0x00 ∷ 0x00
+    ∷ 0x03 ∷ 0x00 ∷ 0x04 ∷ 0x01 ∷ 0x02 ∷ 0x00 ∷ 0x01
+    ∷ 0x04 ∷ 0x00 ∷ 0x00 ∷ [])
+    12 0
 
 -- input, register, asynchronous ROM, output: accepted, reset word M[register's reset]. The register resets to 3, and M[3] is 2
 before : Case
@@ -184,7 +216,9 @@ before = record {
       ∷ 0x03 ∷ 0x00 ∷ 0x04 ∷ 0x01 ∷ 0x02 ∷ 0x00 ∷ 0x01
       ∷ 0x04 ∷ 0x00 ∷ 0x00 ∷ [])
       (0 ∷ 1 ∷ 0 ∷ []);
-  preview = sized 1 0 42 1;
+  preview = sized 1 0 42 1 3;
+  sources = 0 ∷ 0 ∷ 0 ∷ [];
+  readers = 0 ∷ 0 ∷ 0 ∷ [];
 }
 
 -- input, asynchronous ROM, register, output: accepted, with the register's reset: 1, where M[1] is 2 and M[0] is 3
@@ -207,7 +241,9 @@ behind = record {
       ∷ 0x03 ∷ 0x00 ∷ 0x04 ∷ 0x01 ∷ 0x02 ∷ 0x00 ∷ 0x01
       ∷ 0x04 ∷ 0x00 ∷ 0x00 ∷ [])
       (0 ∷ 0 ∷ 0 ∷ []);
-  preview = sized 1 0 42 0;
+  preview = sized 1 0 42 0 3;
+  sources = 0 ∷ 0 ∷ 0 ∷ [];
+  readers = 0 ∷ 0 ∷ 0 ∷ [];
 }
 
 -- one asynchronous ROM read by two registers reset 1 and 2: two clocked ROMs
@@ -234,48 +270,68 @@ split = record {
       ∷ 0x03 ∷ 0x00 ∷ 0x04 ∷ 0x01 ∷ 0x02 ∷ 0x00 ∷ 0x02
       ∷ 0x04 ∷ 0x00 ∷ 0x00 ∷ [])
       (0 ∷ 0 ∷ 0 ∷ 0 ∷ []);
-  preview = sized 2 0 59 0;
+  preview = sized 2 0 59 0 5;
+  sources = 0 ∷ 0 ∷ 0 ∷ 0 ∷ 0 ∷ [];
+  readers = 0 ∷ 0 ∷ 0 ∷ 0 ∷ 0 ∷ [];
 }
 
 -- input, asynchronous ROM, not, register, output: 12
 turned : Case
-turned = record {
-  file =
-      0x01 ∷ 0x00 ∷ 0x01 ∷ 0x01
-      ∷ 0x02 ∷ 0x00 ∷ 0x0A ∷ 0x02 ∷ 0x02 ∷ 0x00 ∷ 0x03 ∷ 0x00 ∷ 0x01 ∷ 0x00 ∷ 0x02 ∷ 0x00 ∷ 0x02
-      ∷ 0x03 ∷ 0x00 ∷ 0x02 ∷ 0x00 ∷ 0x02
-      ∷ 0x03 ∷ 0x00 ∷ 0x05 ∷ 0x03 ∷ 0x02 ∷ 0x00 ∷ 0x00 ∷ 0x00
-      ∷ 0x03 ∷ 0x00 ∷ 0x05 ∷ 0x05 ∷ 0x02 ∷ 0x01 ∷ 0x00 ∷ 0x01
-      ∷ 0x03 ∷ 0x00 ∷ 0x06 ∷ 0x02 ∷ 0x02 ∷ 0x00 ∷ 0x02 ∷ 0x00 ∷ 0x02
-      ∷ 0x03 ∷ 0x00 ∷ 0x04 ∷ 0x01 ∷ 0x02 ∷ 0x00 ∷ 0x03
-      ∷ 0x04 ∷ 0x00 ∷ 0x00 ∷ [];
-  clocks = [];
-  gives = refusal 12 0;
-  preview = preview.Refused 12 0;
-}
+turned =
+    refused
+    (0x01 ∷ 0x00 ∷ 0x01 ∷ 0x01
+    ∷ 0x02 ∷ 0x00 ∷ 0x0A ∷ 0x02 ∷ 0x02 ∷ 0x00 ∷ 0x03 ∷ 0x00 ∷ 0x01 ∷ 0x00 ∷ 0x02 ∷ 0x00 ∷ 0x02
+    ∷ 0x03 ∷ 0x00 ∷ 0x02 ∷ 0x00 ∷ 0x02
+    ∷ 0x03 ∷ 0x00 ∷ 0x05 ∷ 0x03 ∷ 0x02 ∷ 0x00 ∷ 0x00 ∷ 0x00
+    ∷ 0x03 ∷ 0x00 ∷ 0x05 ∷ 0x05 ∷ 0x02 ∷ 0x01 ∷ 0x00 ∷ 0x01
+    ∷ 0x03 ∷ 0x00 ∷ 0x06 ∷ 0x02 ∷ 0x02 ∷ 0x00 ∷ 0x02 ∷ 0x00 ∷ 0x02
+    ∷ 0x03 ∷ 0x00 ∷ 0x04 ∷ 0x01 ∷ 0x02 ∷ 0x00 ∷ 0x03
+    ∷ 0x04 ∷ 0x00 ∷ 0x00 ∷ [])
+    12 0
 
 -- a loop of two asynchronous ROMs and one register: 11
 owing : Case
-owing = record {
+owing =
+    refused
+    (0x01 ∷ 0x00 ∷ 0x01 ∷ 0x01
+    ∷ 0x02 ∷ 0x00 ∷ 0x0A ∷ 0x02 ∷ 0x02 ∷ 0x00 ∷ 0x03 ∷ 0x00 ∷ 0x01 ∷ 0x00 ∷ 0x02 ∷ 0x00 ∷ 0x02
+    ∷ 0x03 ∷ 0x00 ∷ 0x05 ∷ 0x03 ∷ 0x02 ∷ 0x00 ∷ 0x02 ∷ 0x00
+    ∷ 0x03 ∷ 0x00 ∷ 0x05 ∷ 0x03 ∷ 0x02 ∷ 0x00 ∷ 0x00 ∷ 0x00
+    ∷ 0x03 ∷ 0x00 ∷ 0x06 ∷ 0x02 ∷ 0x02 ∷ 0x00 ∷ 0x01 ∷ 0x00 ∷ 0x02
+    ∷ 0x03 ∷ 0x00 ∷ 0x04 ∷ 0x01 ∷ 0x02 ∷ 0x00 ∷ 0x02
+    ∷ 0x04 ∷ 0x00 ∷ 0x00 ∷ [])
+    11 65535
+
+-- T-03: input, two registers in a row, output. Both are the input's, and both stand on the output's wire; the first is read by no other node than the second
+row : Case
+row = record {
   file =
       0x01 ∷ 0x00 ∷ 0x01 ∷ 0x01
-      ∷ 0x02 ∷ 0x00 ∷ 0x0A ∷ 0x02 ∷ 0x02 ∷ 0x00 ∷ 0x03 ∷ 0x00 ∷ 0x01 ∷ 0x00 ∷ 0x02 ∷ 0x00 ∷ 0x02
-      ∷ 0x03 ∷ 0x00 ∷ 0x05 ∷ 0x03 ∷ 0x02 ∷ 0x00 ∷ 0x02 ∷ 0x00
-      ∷ 0x03 ∷ 0x00 ∷ 0x05 ∷ 0x03 ∷ 0x02 ∷ 0x00 ∷ 0x00 ∷ 0x00
-      ∷ 0x03 ∷ 0x00 ∷ 0x06 ∷ 0x02 ∷ 0x02 ∷ 0x00 ∷ 0x01 ∷ 0x00 ∷ 0x02
-      ∷ 0x03 ∷ 0x00 ∷ 0x04 ∷ 0x01 ∷ 0x02 ∷ 0x00 ∷ 0x02
+      ∷ 0x03 ∷ 0x00 ∷ 0x02 ∷ 0x00 ∷ 0x01
+      ∷ 0x03 ∷ 0x00 ∷ 0x06 ∷ 0x02 ∷ 0x01 ∷ 0x00 ∷ 0x00 ∷ 0x00 ∷ 0x01
+      ∷ 0x03 ∷ 0x00 ∷ 0x06 ∷ 0x02 ∷ 0x01 ∷ 0x00 ∷ 0x01 ∷ 0x00 ∷ 0x00
+      ∷ 0x03 ∷ 0x00 ∷ 0x04 ∷ 0x01 ∷ 0x01 ∷ 0x00 ∷ 0x02
       ∷ 0x04 ∷ 0x00 ∷ 0x00 ∷ [];
-  clocks = [];
-  gives = refusal 11 65535;
-  preview = preview.Refused 11 65535;
+  clocks = clock (1 ∷ []) (0 ∷ []) ∷ clock (0 ∷ []) (1 ∷ []) ∷ clock (0 ∷ []) (1 ∷ []) ∷ clock (1 ∷ []) (0 ∷ []) ∷ [];
+  gives = result
+      (0x01 ∷ 0x00 ∷ 0x01 ∷ 0x01
+      ∷ 0x03 ∷ 0x00 ∷ 0x02 ∷ 0x00 ∷ 0x01
+      ∷ 0x03 ∷ 0x00 ∷ 0x04 ∷ 0x01 ∷ 0x01 ∷ 0x00 ∷ 0x03
+      ∷ 0x03 ∷ 0x00 ∷ 0x06 ∷ 0x02 ∷ 0x01 ∷ 0x00 ∷ 0x00 ∷ 0x00 ∷ 0x01
+      ∷ 0x03 ∷ 0x00 ∷ 0x06 ∷ 0x02 ∷ 0x01 ∷ 0x00 ∷ 0x02 ∷ 0x00 ∷ 0x00
+      ∷ 0x04 ∷ 0x00 ∷ 0x00 ∷ [])
+      (0 ∷ 0 ∷ []);
+  preview = sized 0 2 37 0 2;
+  sources = 2 ∷ 0 ∷ [];
+  readers = 0 ∷ 2 ∷ [];
 }
 
 pub bench : List Case
-bench = empty ∷ adder ∷ toggle ∷ bare ∷ before ∷ behind ∷ split ∷ turned ∷ owing ∷ filledAdder ∷ []
+bench = empty ∷ adder ∷ toggle ∷ bare ∷ before ∷ behind ∷ split ∷ turned ∷ owing ∷ filledAdder ∷ row ∷ []
 
 -- THE THEOREM
 pub bench-holds : map found bench ≡ map expected bench
-unfolding computing leadsIn outputWords foundBy found expected clock sized adderOver empty adder toggle bare before behind split turned owing filledAdder bench
+unfolding computing leadsIn readersIn lent outputWords foundBy found expected clock sized refused adderOver empty adder toggle bare before behind split turned owing filledAdder row bench
 bench-holds = refl
 
 -- ---- and not for the first clocks alone: demand 3, for instance of the adder

@@ -15,9 +15,10 @@ use Rattle.retiming.specs.Rewrite.{rootIn, passedIn, root, passed, ownHe
 use Rattle.retiming.specs.Rewrite.{wiresOf, wiresAll, wirePlaces, wireNumber, entriesOf, regsOn, entryPlaces, regPlaces, places, numberOf, along, newSource, nodeOf, rewrittenWith, timingBy, timing, rewritten}
 use Rattle.retiming.specs.Debt.{grown, debtStages, debtVerdict}
 use Rattle.retiming.specs.FileRewrite.{rewriterVerdict, rewrittenFile, written, rewriteFile}
-use Rattle.retiming.specs.Preview.{ownLead, largestLead, measured, sizeOf, previewFile}
+use Rattle.retiming.specs.BySource.{onWireFrom, registersFrom, registersTo, bySource, byReader}
+use Rattle.retiming.specs.Preview.{ownLead, largestLead, measured, sizeOf, sourceBytes, previewed, previewFile}
 
 -- reading and checking, writing, leads, rewriting, preview, runs
 unfoldable pub computing : ℕ
-unfolding checking encode nodeContent tableContent operate spelled contentsIn contentsAt portOf outputsOf asyncHere registerHere asked relax leadsAfter leads lead closedDebt owingPort grown debtStages debtVerdict rootIn passedIn root passed ownHere memoryAt wordFrom stays oldOn registersOn countOn newTables newTable resetWord copyOn copiesAt copiesOf copies wiresOf wiresAll wirePlaces wireNumber entriesOf regsOn entryPlaces regPlaces places numberOf along newSource nodeOf rewrittenWith timingBy timing rewritten rewriterVerdict rewrittenFile written rewriteFile ownLead largestLead measured sizeOf previewFile holderOf contentsNow again round wordsAfter words resetState nextState runOutputs runState stateAt runWord zeroWord inputWidths outputWidths stateWidths fitting resetNet resetFile runNet runFile runsFile stateBytes
+unfolding checking encode nodeContent tableContent operate spelled contentsIn contentsAt portOf outputsOf asyncHere registerHere asked relax leadsAfter leads lead closedDebt owingPort grown debtStages debtVerdict rootIn passedIn root passed ownHere memoryAt wordFrom stays oldOn registersOn countOn newTables newTable resetWord copyOn copiesAt copiesOf copies wiresOf wiresAll wirePlaces wireNumber entriesOf regsOn entryPlaces regPlaces places numberOf along newSource nodeOf rewrittenWith timingBy timing rewritten rewriterVerdict rewrittenFile written rewriteFile ownLead largestLead onWireFrom registersFrom registersTo bySource byReader measured sizeOf sourceBytes previewed previewFile holderOf contentsNow again round wordsAfter words resetState nextState runOutputs runState stateAt runWord zeroWord inputWidths outputWidths stateWidths fitting resetNet resetFile runNet runFile runsFile stateBytes
 computing = 0

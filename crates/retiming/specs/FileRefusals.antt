@@ -2,13 +2,11 @@
 -- This rules out a rewriter that says 11 or 12 to everything, and one that says 14 before the length is known. Assumes nothing.
 use mathlib.Core.Path.{_≡_, refl, sym, ap, _∙_}
 use mathlib.Core.Logic.{_↔_, _⊎_, inl, inr, ⊎-elim}
-use mathlib.Core.Bool.{Bool, true, false, cond}
+use mathlib.Core.Bool.{false}
 use mathlib.Core.List.{List}
 use Prim.Native.Nat.{ℕ, _<_}
 use native.Mathlib.Omega.{arith}
 use lib.ListN.{length}
-use lib.Dec.{ltb}
-use borrow.Author.Tests.{lt-ltb, ltb-true}
 use Rattle.lists.specs.BelowLaws.{true-or-false}
 use Rattle.netlist.specs.Net.{Net, size}
 use Rattle.netlist.specs.Checks.{WellFormed}
@@ -28,6 +26,7 @@ use Rattle.retiming.specs.Debt.{debtVerdict}
 use Rattle.retiming.specs.DebtLaws.{LowestOwing, NoneOwes, search-ports, no-closed, closed-none, refuses-11-iff, refuses-12-iff, refuses-13-iff}
 use Rattle.retiming.specs.PortWalks.{PortOwes, lowest-owing, none-owes}
 use Rattle.retiming.specs.FileRewrite.{rewriterVerdict, IsAccepted, rewrittenFile, writtenBy, outVerdict, written, writtenAfter, rewriteFile}
+use Rattle.retiming.specs.OutLaws.{out-short, out-refuses}
 
 -- ---- 14, and what the answer says of the checks before it
 
@@ -37,14 +36,10 @@ module _ (b out : List ℕ) where
   refused-by Fine k p e = let z : _≡_ {A = ℕ} 0 1 = cc in absurd (omega arith)
   refused-by (Refuses m q) k p e = (cc, refl)
 
-  by-length : (t : Bool) (k p : ℕ) → cond t (Refuses 14 65535) Fine ≡ Refuses k p → (t ≡ true) × (14 ≡ k)
-  by-length true k p e = (refl, let n : 14 ≡ k = cc in n)
-  by-length false k p e = let z : _≡_ {A = ℕ} 0 1 = cc in absurd (omega arith)
-
   -- 14 by the length, after which no other number comes
-  short : (k p : ℕ) → written b out .answer ≡ Refused k p → (ltb (length out) (length b) ≡ true) × (14 ≡ k)
+  short : (k p : ℕ) → written b out .answer ≡ Refused k p → (k ≡ 14) × (p ≡ 65535) × (length out < length b)
   unfolding written
-  short k p e = by-length (ltb (length out) (length b)) k p (refused-by (outVerdict b out) k p e .0)
+  short k p e = out-refuses b out (refused-by (outVerdict b out) k p e .0)
 
   kept : (v : Verdict) (k p : ℕ) → writtenAfter v b out .answer ≡ Refused k p → writtenAfter v b out .out ≡ out
   unfolding written
@@ -52,7 +47,7 @@ module _ (b out : List ℕ) where
   kept (Refuses m q) k p e = refl
 
   said : (v : Verdict) (k p : ℕ) → (k ≡ 14 → ⊥) → writtenAfter v b out .answer ≡ Refused k p → v ≡ Refuses k p
-  said Fine k p h e = absurd (h (sym (short k p e .1)))
+  said Fine k p h e = absurd (h (short k p e .0))
   said (Refuses m q) k p h e = cc
 
 -- "no lent byte differs after it": of any file, and of any refusal
@@ -64,8 +59,8 @@ refused-keeps s out k p e = kept (rewrittenFile s) out (rewriterVerdict s) k p e
 pub refused-14-iff : (s out : List ℕ) → IsAccepted s → rewriteFile s out .answer ≡ Refused 14 65535 ↔ (length out < length (rewrittenFile s))
 unfolding rewriteFile written
 refused-14-iff s out a = rw a (
-  λ e. ltb-true (length out) (length (rewrittenFile s)) (short (rewrittenFile s) out 14 65535 e .0),
-  λ l. rw (lt-ltb (length out) (length (rewrittenFile s)) l),
+  λ e. short (rewrittenFile s) out 14 65535 e .2,
+  λ l. ap (λ (v : Verdict). writtenBy v (rewrittenFile s) out .answer) (out-short (rewrittenFile s) out l),
 )
 
 -- ---- of a file that the reader passes: 11, 12 and 13

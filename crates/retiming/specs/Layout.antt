@@ -108,6 +108,10 @@ module _ (N : Net) (f : Timing) (Z : ℕ → ℕ → ℕ) where
       getD-concatBelow (entriesOf N f Z) (size N) x (find c (copies N f Z x)) (s .inside) entry-lt noPlace ∙ entry-at,
     )
 
+    -- no register has so low a number
+    pub entry-within : numberOf N f Z (Entry x c) < length (entryPlaces N f Z)
+    entry-within = entry-found .0
+
     -- the places of a wire
     module _ (g : ℕ → ℕ → ℕ → List Place) (p i : ℕ) (q : p < operands (elementAt N x)) (pl : Place) (found : At (g x c p) i pl) where
       place₁ : ℕ

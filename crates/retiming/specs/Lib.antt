@@ -2,6 +2,7 @@ pub mod Leads
 pub mod Rewrite
 pub mod Debt
 pub mod FileRewrite
+pub mod OutLaws
 pub mod Elements
 pub mod Walks
 pub mod LeadsLaws
@@ -31,10 +32,16 @@ pub mod Demand3
 pub mod Demand3Corollaries
 pub mod FileRefusals
 pub mod Demand2
+pub mod BySource
+pub mod BySourceLaws
+pub mod RegistersLast
+pub mod TotalByReader
+pub mod NewRegisters
 pub mod Preview
 pub mod LargestLead
 pub mod PreviewLaws
 pub mod PreviewAgrees
+pub mod RegistersBySource
 pub mod Respelled
 pub mod AnswerAlike
 pub mod Computing

@@ -1,11 +1,10 @@
 -- An accepted file and its rewritten file: what the checks leave of the one, and that the other passes the reader. Assumes nothing.
 use mathlib.Core.Path.{_≡_, refl, ap, _∙_}
-use mathlib.Core.Bool.{Bool, false, true≢false, cond}
+use mathlib.Core.Bool.{false, true≢false}
 use mathlib.Core.List.{List, _++_}
 use Prim.Native.Nat.{ℕ, _≤_}
 use native.Mathlib.Omega.{arith}
 use lib.ListN.{length, drop}
-use borrow.Author.Tests.{le-ltb}
 use Rattle.netlist.specs.declared.Answer.the-variants.{Accepted}
 use Rattle.netlist.specs.declared.Verdict.{Verdict}
 use Rattle.netlist.specs.declared.Verdict.the-variants.{Fine, Refuses}
@@ -30,6 +29,7 @@ use Rattle.retiming.specs.Retimed.{retimes, rewritten-clocked}
 use Rattle.retiming.specs.Records.{shaped-new, within-shaped}
 use Rattle.retiming.specs.PastDebt.{no-debt, past-debt-alike}
 use Rattle.retiming.specs.FileRewrite.{rewriterVerdict, IsAccepted, rewrittenOf, rewrittenFile, writtenBy, written, writtenAfter, rewriteFile, NoAsynchronous}
+use Rattle.retiming.specs.OutLaws.{out-long}
 
 -- ---- what 1 to 13 leave of a file: its netlist, which the reader and the rewriter find nothing to refuse in
 
@@ -56,7 +56,7 @@ pub accepted-written : (s out : List ℕ) → IsAccepted s → length (rewritten
     → rewriteFile s out ≡ record { answer = Accepted (length (rewrittenFile s)); out = rewrittenFile s ++ drop (length (rewrittenFile s)) out }
 unfolding rewriteFile written
 accepted-written s out a long =
-    ap (λ (v : Verdict). writtenAfter v (rewrittenFile s) out) a ∙ ap (λ (t : Bool). writtenBy (cond t (Refuses 14 65535) Fine) (rewrittenFile s) out) (le-ltb (length out) (length (rewrittenFile s)) long)
+    ap (λ (v : Verdict). writtenAfter v (rewrittenFile s) out) a ∙ ap (λ (v : Verdict). writtenBy v (rewrittenFile s) out) (out-long (rewrittenFile s) out long)
 
 not-kind-3 : (e : Element) → isAsync e ≡ false → kindOf e ≡ 3 → ⊥
 not-kind-3 Input h k = omega arith
