@@ -11,12 +11,12 @@ abbrev pub asNumber : Answer → ℕ
 asNumber (Accepted n) = n
 asNumber (Refused k p) = k * 65536 + p
 
--- a preview's answer: what rewriting into an output that is long enough answers
+-- a preview's answer: what rewriting into an output that is long enough answers, or 14
 abbrev pub answerOf : Preview → Answer
 answerOf (preview.Fits z) = Accepted (z .length)
 answerOf (preview.Refused k p) = Refused k p
 
 -- beside a refusal the other numbers are 0
 abbrev pub asNumbers : Preview → PunqelisSize
-asNumbers (preview.Fits z) = record { answer = asNumber (Accepted (z .length)); «clocked_roms» = z .clocked; registers = z .registers; «largest_lead» = z .lead }
-asNumbers (preview.Refused k p) = record { answer = asNumber (Refused k p); «clocked_roms» = 0; registers = 0; «largest_lead» = 0 }
+asNumbers (preview.Fits z) = record { answer = asNumber (Accepted (z .length)); «clocked_roms» = z .clocked; registers = z .registers; «largest_lead» = z .lead; sources = z .sources }
+asNumbers (preview.Refused k p) = record { answer = asNumber (Refused k p); «clocked_roms» = 0; registers = 0; «largest_lead» = 0; sources = 0 }

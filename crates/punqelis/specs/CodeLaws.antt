@@ -41,9 +41,12 @@ check-within s = of-scan s (scan s) (λ i. scan s)
 -- ---- the numbers of a preview, one by one
 
 module _ {r : Preview} where
-  pub fits-numbers : {z : Size} {a c g m : ℕ} → r ≡ Fits z → a ≡ z .length → c ≡ z .clocked → g ≡ z .registers → m ≡ z .lead
-      → record { answer = a; «clocked_roms» = c; registers = g; «largest_lead» = m } ≡ asNumbers r
-  fits-numbers q e f g h = let x : _ ≡ asNumbers (Fits _) = λ i. record { answer = e i; «clocked_roms» = f i; registers = g i; «largest_lead» = h i } in x ∙ sym (ap asNumbers q)
+  pub fits-numbers : {z : Size} {a c g m k : ℕ} → r ≡ Fits z → a ≡ z .length → c ≡ z .clocked → g ≡ z .registers → m ≡ z .lead → k ≡ z .sources
+      → record { answer = a; «clocked_roms» = c; registers = g; «largest_lead» = m; sources = k } ≡ asNumbers r
+  fits-numbers q e f g h k =
+      let x : _ ≡ asNumbers (Fits _) = λ i. record { answer = e i; «clocked_roms» = f i; registers = g i; «largest_lead» = h i; sources = k i } in
+      x ∙ sym (ap asNumbers q)
 
-  pub refused-numbers : {k p a : ℕ} → r ≡ preview.Refused k p → a ≡ asNumber (Refused k p) → record { answer = a; «clocked_roms» = 0; registers = 0; «largest_lead» = 0 } ≡ asNumbers r
-  refused-numbers q e = ap (λ (a : ℕ). record { answer = a; «clocked_roms» = 0; registers = 0; «largest_lead» = 0 }) e ∙ sym (ap asNumbers q)
+  pub refused-numbers : {k p a : ℕ} → r ≡ preview.Refused k p → a ≡ asNumber (Refused k p)
+      → record { answer = a; «clocked_roms» = 0; registers = 0; «largest_lead» = 0; sources = 0 } ≡ asNumbers r
+  refused-numbers q e = ap (λ (a : ℕ). record { answer = a; «clocked_roms» = 0; registers = 0; «largest_lead» = 0; sources = 0 }) e ∙ sym (ap asNumbers q)

@@ -37,9 +37,9 @@ rewrite-within s out b = by-verdict (rewriterVerdict s) refl
     by-verdict Fine e = written-within (rewrittenFile s) out (let l = new-length s b (past-13 s e) in omega arith)
     by-verdict (Refuses k p) e = refused-within
 
-pub preview-within : (s : List ℕ) → Bytes s → LengthWithin 65535 (answerOf (previewFile s))
-preview-within s b = by-preview (previewFile s) refl
+pub preview-within : (s l : List ℕ) → Bytes s → LengthWithin 65535 (answerOf (previewFile s l .preview))
+preview-within s l b = by-preview (previewFile s l .preview) refl
   where
-    by-preview : (r : Preview) → previewFile s ≡ r → LengthWithin 65535 (answerOf r)
-    by-preview (Fits z) e = accepted-within {n = z .length} (let l = fits-within s b e in omega arith)
+    by-preview : (r : Preview) → previewFile s l .preview ≡ r → LengthWithin 65535 (answerOf r)
+    by-preview (Fits z) e = accepted-within {n = z .length} (let n = fits-within s l b e in omega arith)
     by-preview (preview.Refused k p) e = refused-within

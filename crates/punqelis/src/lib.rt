@@ -22,6 +22,7 @@ pub struct PunqelisSize {
     pub clocked_roms: u32,
     pub registers: u32,
     pub largest_lead: u32,
+    pub sources: u32,
 }
 
 fn wide8(x: u8) -> u32
@@ -58,12 +59,14 @@ fn numbers(p: Preview) -> PunqelisSize
             clocked_roms: wide16(size.clocked),
             registers: wide16(size.registers),
             largest_lead: wide16(size.lead),
+            sources: wide16(size.sources),
         },
         Preview::Refused(number, place) => PunqelisSize {
             answer: code(Answer::Refused(number, place)),
             clocked_roms: 0,
             registers: 0,
             largest_lead: 0,
+            sources: 0,
         },
     }
 }
@@ -109,10 +112,11 @@ pub extern "C" fn punqelis_rewrite(file: &[u8], out: &mut [u8]) -> u32
     code(rewrite_file(file, out))
 }
 
-// What rewriting a file would give, and nothing is written: the new file's size, or the refusal (1 to 13).
+// What rewriting a file would give: the new file's size, and its registers by source in the list; or the refusal (1 to 14), which leaves the list as it was.
 #[no_mangle]
-pub extern "C" fn punqelis_preview(file: &[u8]) -> PunqelisSize
-    ensures { λ r. ⌜ r ≡ asNumbers (previewFile (now (file .entry))) ⌝ }
+pub extern "C" fn punqelis_preview(file: &[u8], list: &mut [u8]) -> PunqelisSize
+    ensures { λ r. ⌜ (r ≡ asNumbers (previewFile (now (file .entry)) (now (list .entry)) .preview))
+        × (now (list .exit) ≡ previewFile (now (file .entry)) (now (list .entry)) .list) ⌝ }
 {
-    numbers(preview_file(file))
+    numbers(preview_file(file, list))
 }

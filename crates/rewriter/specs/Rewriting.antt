@@ -7,7 +7,7 @@ use Prim.Native.Nat.{ℕ, _≤_, _<_, zero-le}
 use native.Mathlib.Omega.{arith}
 use lib.ListN.{length, drop}
 use lib.Dec.{ltb}
-use borrow.Author.Tests.{lt-ltb, le-ltb, ltb-false}
+use borrow.Author.Tests.{ltb-false}
 use Rattle.lists.specs.BelowLaws.{true-or-false}
 use Rattle.netlist.specs.Net.{Net}
 use Rattle.netlist.specs.File.{Decoded, decode, decodedNet, encode}
@@ -17,7 +17,8 @@ use Rattle.netlist.specs.declared.Verdict.{Verdict}
 use Rattle.netlist.specs.declared.Verdict.the-variants.{Fine, Refuses}
 use Rattle.circuit.specs.Circuit.{netOf}
 use Rattle.retiming.specs.Rewrite.{rewritten}
-use Rattle.retiming.specs.FileRewrite.{rewriterVerdict, IsAccepted, rewrittenFile, Rewrote, written, writtenAfter, rewriteFile}
+use Rattle.retiming.specs.FileRewrite.{rewriterVerdict, IsAccepted, rewrittenFile, Rewrote, writtenBy, written, writtenAfter, rewriteFile}
+use Rattle.retiming.specs.OutLaws.{out-short, out-long}
 use Rattle.retiming.specs.RewrittenFile.{past-13, file-is}
 use Rattle.retiming.specs.PreviewLaws.{refused-written}
 use Rattle.retime.specs.declared.Retimed.{Retimed}
@@ -33,11 +34,11 @@ rewrote e = (ap (λ (z : Rewrote). z .answer) e, ap (λ (z : Rewrote). z .out) e
 -- 14, or written
 pub too-short : (b out : List ℕ) → length out < length b → record { answer = Refused 14 65535; out = out } ≡ written b out
 unfolding written
-too-short b out h = sym (rw (lt-ltb (length out) (length b) h))
+too-short b out h = sym (ap (λ (v : Verdict). writtenBy v b out) (out-short b out h))
 
 pub long-enough : (b out : List ℕ) → length b ≤ length out → record { answer = Accepted (length b); out = b ++ drop (length b) out } ≡ written b out
 unfolding written
-long-enough b out h = sym (rw (le-ltb (length out) (length b) h))
+long-enough b out h = sym (ap (λ (v : Verdict). writtenBy v b out) (out-long b out h))
 
 -- ---- by what is laid
 

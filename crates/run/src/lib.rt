@@ -11,11 +11,12 @@ use evaluate::lent::row_members;
 use evaluate::next_word;
 use netlist::Answer;
 use netlist::Verdict;
+use words::put_word;
 ghost use mathlib.Core.Path.{_≡_};
 ghost use mathlib.Core.Bool.{true};
 ghost use mathlib.Core.List.{map};
-ghost use Prim.Native.Nat.{_+_, _*_, _/_, _%_, _<_};
-ghost use lib.ListN.{length, getD, set};
+ghost use Prim.Native.Nat.{_*_, _<_};
+ghost use lib.ListN.{length, getD};
 ghost use Rattle.netlist.specs.Net.{Net, size, elementAt, inClock};
 ghost use Rattle.netlist.specs.Checks.{WellFormed};
 ghost use Rattle.circuit.specs.Circuit.{orderOf, netOf, Circuit};
@@ -26,15 +27,6 @@ ghost use Rattle.behaviour.specs.Service.{bytesOf, wordsIn, resetNet, resetFile
 ghost use Rattle.evaluate.specs.Rows.{rowTest, rowMembers};
 ghost use Rattle.evaluate.specs.Clock.{Inside};
 ghost use Rattle.evaluate.specs.Next.{WordsFit};
-
-// Writes a word, high byte first.
-fn put_word(out: &mut [u8], at: usize, w: u16)
-    requires { ⌜ at + 1 < length (now out) ⌝ }
-    ensures { λ _. ⌜ now (out .exit) ≡ set (set (now (out .entry)) at (w / 256)) (at + 1) (w % 256) ⌝ }
-{
-    out[at] = (w / 256) as u8;
-    out[at + 1] = (w % 256) as u8;
-}
 
 // ---- reset
 

@@ -1,6 +1,8 @@
--- The refusal, or the size of what is laid.
-use Rattle.preview.specs.Previewing.{laid-fits, laid-none}
+-- The refusal; or the size and the list of what is laid.
+use mathlib.Core.Path.{_∙_}
+use native.Mathlib.Omega.{arith}
 use borrow.Author.Needs.{needs}
+use Rattle.preview.specs.Previewing.{previewed-as, laid-last, laid-fits, laid-none}
 use Rattle.preview.proofs.preview_file.Statement.{statement}
 use Rattle.preview.proofs.preview_file.Tie as tie
 
@@ -16,17 +18,25 @@ enum-known-number c = search needs
 enum-known-lead : tie.Need-enum-known-lead
 enum-known-lead c = search needs
 
-slice-aggregate-measure : tie.Need-slice-aggregate-measure
-slice-aggregate-measure c = search needs
+slice-aggregate-measure-fitting : tie.Need-slice-aggregate-measure-fitting
+slice-aggregate-measure-fitting c = search needs
 
-measure-requires : tie.Need-measure-requires
-measure-requires c κs = c .before .before .before .before .before .retime-file .ensures .1 _ (c .before .before .lead .given .1) .1
+measure-fitting-requires : tie.Need-measure-fitting-requires
+measure-fitting-requires c κs =
+    let t = c .before .before .before .before .before .before .retime-file .ensures in
+    let q = c .before .before .before .lead .given .1 in
+    (t .1 _ q .1, laid-last t (λ i. omega (arith, c .before .before .before .before .before .before .before .before .before .shared-slice-known .given i)) q)
 
 returns : tie.Need-returns
-returns c = laid-none (c .before .before .before .before .retime-file .ensures) (c .before .number .given .1)
+returns c = previewed-as (laid-none (c .before .before .before .before .retime-file .ensures) (c .before .before .before .before .before .before .before .before .args .list .now) (c .before .number .given .1))
+
+same-length : tie.Need-same-length
+same-length c = search needs
 
 returns-2 : tie.Need-returns-2
-returns-2 c = laid-fits (c .before .before .before .before .before .before .retime-file .ensures) (c .before .before .before .lead .given .1) (c .measure .ensures)
+returns-2 c =
+    let r = previewed-as (laid-fits (c .before .before .before .before .before .before .before .before .before .retime-file .ensures) (c .before .before .before .before .before .before .before .before .before .before .before .before .before .args .list .now) (c .before .before .before .before .before .before .lead .given .1)) in
+    (c .before .before .measure-fitting .ensures .0 ∙ r .0, c .before .before .measure-fitting .ensures .1 ∙ r .1)
 
 pub preview-file-spec : {M : Type 1} → statement M
 preview-file-spec =
@@ -36,7 +46,8 @@ preview-file-spec =
     retime-file-requires
     enum-known-number
     enum-known-lead
-    slice-aggregate-measure
-    measure-requires
+    slice-aggregate-measure-fitting
+    measure-fitting-requires
     returns
+    same-length
     returns-2)

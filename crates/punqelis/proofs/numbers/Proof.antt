@@ -22,6 +22,9 @@ wide16-requires-2 c κs = search needs
 wide16-requires-3 : tie.Need-wide16-requires-3
 wide16-requires-3 c κs = search needs
 
+wide16-requires-4 : tie.Need-wide16-requires-4
+wide16-requires-4 c κs = search needs
+
 enum-known-p-2 : tie.Need-enum-known-p-2
 enum-known-p-2 c = search needs
 
@@ -29,7 +32,7 @@ code-requires-2 : tie.Need-code-requires-2
 code-requires-2 c κs = refused-within
 
 returns : tie.Need-returns
-returns c = fits-numbers (c .before .before .before .before .before .p .given .1) (c .before .before .before .code .ensures) (c .before .before .wide16 .ensures .0) (c .before .wide162 .ensures .0) (c .wide163 .ensures .0)
+returns c = fits-numbers (c .before .before .before .before .before .before .p .given .1) (c .before .before .before .before .code .ensures) (c .before .before .before .wide16 .ensures .0) (c .before .before .wide162 .ensures .0) (c .before .wide163 .ensures .0) (c .wide164 .ensures .0)
 
 returns-2 : tie.Need-returns-2
 returns-2 c = refused-numbers (c .before .before .p2 .given .1) (c .code2 .ensures)
@@ -43,6 +46,7 @@ numbers-spec =
     wide16-requires
     wide16-requires-2
     wide16-requires-3
+    wide16-requires-4
     enum-known-p-2
     code-requires-2
     returns
