@@ -12,6 +12,7 @@ pub mod format;
 pub mod leads;
 pub mod netlist;
 pub mod preview;
+pub mod previewed;
 #[cfg(feature = "check")]
 pub mod product;
 pub mod random;
@@ -31,8 +32,8 @@ pub use simulate::{reset, run};
 
 /// A service on a file: the check.
 pub type Check = fn(&[u8]) -> Answer;
-/// A service on a file that tells a size: the preview.
-pub type Preview = fn(&[u8]) -> Result<Size, Refusal>;
+/// A service on a file and a lent list that tells a size: the preview.
+pub type Preview = fn(&[u8], &mut [u8]) -> Result<Size, Refusal>;
 /// A service on a file and lent bytes: the reset and the rewriter.
 pub type OnBytes = fn(&[u8], &mut [u8]) -> Answer;
 /// A service on a file, its state, inputs and outputs: the run.

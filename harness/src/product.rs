@@ -14,6 +14,7 @@ struct AnsweredSize {
     clocked_roms: u32,
     registers: u32,
     largest_lead: u32,
+    sources: u32,
 }
 
 extern "C" {
@@ -34,7 +35,12 @@ extern "C" {
     #[cfg(feature = "rewrite")]
     fn punqelis_rewrite(file: *const u8, file_len: usize, out: *mut u8, out_len: usize) -> u32;
     #[cfg(feature = "rewrite")]
-    fn punqelis_preview(file: *const u8, file_len: usize) -> AnsweredSize;
+    fn punqelis_preview(
+        file: *const u8,
+        file_len: usize,
+        by_source: *mut u8,
+        by_source_len: usize,
+    ) -> AnsweredSize;
 }
 
 #[cfg(feature = "rewrite")]
@@ -79,19 +85,26 @@ pub fn rewrite(file: &[u8], out: &mut [u8]) -> Answer {
 }
 
 #[cfg(feature = "rewrite")]
-pub fn preview(file: &[u8]) -> Result<Size, Refusal> {
-    let size = unsafe { punqelis_preview(file.as_ptr(), file.len()) };
-    let numbers = [size.clocked_roms, size.registers, size.largest_lead];
-    let [clocked_roms, registers, largest_lead] = numbers.map(|number| number as usize);
+pub fn preview(file: &[u8], by_source: &mut [u8]) -> Result<Size, Refusal> {
+    let (list, list_len) = (by_source.as_mut_ptr(), by_source.len());
+    let size = unsafe { punqelis_preview(file.as_ptr(), file.len(), list, list_len) };
+    let numbers = [
+        size.clocked_roms,
+        size.registers,
+        size.largest_lead,
+        size.sources,
+    ];
+    let [clocked_roms, registers, largest_lead, sources] = numbers.map(|number| number as usize);
     match answer(size.answer) {
         Ok(length) => Ok(Size {
             clocked_roms,
             registers,
             length,
             largest_lead,
+            sources,
         }),
         Err(refusal) => {
-            assert_eq!(numbers, [0; 3], "beside {refusal}");
+            assert_eq!(numbers, [0; 4], "beside {refusal}");
             Err(refusal)
         }
     }

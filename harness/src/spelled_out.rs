@@ -4,9 +4,10 @@
 use crate::checks::checked;
 use crate::design::Design;
 use crate::format::{self, MAX_FILE};
+use crate::previewed::{previewed, Previewed};
 use crate::random::Entry;
 use crate::simulate::state_len;
-use crate::{hex, Answer, Refusal, Services, Size};
+use crate::{hex, Answer, Refusal, Services};
 
 /// The design with every word of its tables stored.
 pub fn spelled_out(design: &Design) -> Design {
@@ -49,10 +50,10 @@ impl Services {
             assert!(kept, "other tables: {}", hex(&file));
             out[tables_end..length].to_vec()
         });
-        let preview = (self.preview)(&file).map(|size| Size {
-            length: size.length - tables_end,
-            ..size
-        });
+        let mut preview = previewed(self.preview, &file);
+        if let Ok(previewed) = &mut preview {
+            previewed.size.length -= tables_end;
+        }
         Shown {
             runs,
             rewritten,
@@ -67,6 +68,6 @@ struct Shown {
     runs: Vec<(Answer, Vec<u8>, Vec<u8>)>,
     /// The rewritten file from the end of its tables on.
     rewritten: Result<Vec<u8>, Refusal>,
-    /// The rewritten file's size, its length counted from there.
-    preview: Result<Size, Refusal>,
+    /// What the preview gives, the rewritten file's length counted from there.
+    preview: Result<Previewed, Refusal>,
 }

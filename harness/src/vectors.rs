@@ -4,7 +4,7 @@ use std::fs;
 use std::path::{Path, PathBuf};
 use std::str::FromStr;
 
-use crate::preview::Size;
+use crate::previewed::{numbers, Previewed};
 use crate::refusal::{Answer, Refusal};
 
 /// One file and all that is known of it.
@@ -13,8 +13,8 @@ pub struct Vector {
     pub file: Vec<u8>,
     /// The rewritten file, or the rewriter's refusal.
     pub rewritten: Result<Vec<u8>, Refusal>,
-    /// The rewritten file's size, or the preview's refusal.
-    pub preview: Result<Size, Refusal>,
+    /// What the preview gives, or its refusal.
+    pub preview: Result<Previewed, Refusal>,
     /// Where the reader accepts the file: runs from reset.
     pub trace: Option<Trace>,
 }
@@ -45,7 +45,7 @@ impl Vector {
 pub fn file() -> PathBuf {
     match std::env::var_os("PUNQELIS_VECTORS") {
         Some(file) => PathBuf::from(file),
-        None => Path::new(env!("CARGO_MANIFEST_DIR")).join("../vectors/t02.txt"),
+        None => Path::new(env!("CARGO_MANIFEST_DIR")).join("../vectors/t03.txt"),
     }
 }
 
@@ -65,13 +65,15 @@ fn vector(case: &str) -> Vector {
     let mut file = None;
     let mut rewritten = None;
     let mut preview = None;
+    let mut by_source = None;
     let mut trace: Option<Trace> = None;
     for line in lines {
         let words: Vec<&str> = line.split(' ').collect();
         match words[..] {
             ["file", digits] => file = Some(hex(digits)),
             ["rewrite", ref given @ ..] => rewritten = Some(answer(given)),
-            ["preview", ref given @ ..] => preview = Some(size(given)),
+            ["preview", ref given @ ..] => preview = Some(given.to_vec()),
+            ["by_source", digits] => by_source = Some(numbers(&hex(digits))),
             ["reset", digits] => {
                 trace = Some(Trace {
                     reset: hex(digits),
@@ -92,7 +94,7 @@ fn vector(case: &str) -> Vector {
     Vector {
         file: file.expect("a file"),
         rewritten: rewritten.expect("what rewriting answers"),
-        preview: preview.expect("what the preview answers"),
+        preview: previewed(&preview.expect("what the preview answers"), by_source),
         trace,
         name,
     }
@@ -107,17 +109,15 @@ fn answer(words: &[&str]) -> Result<Vec<u8>, Refusal> {
     }
 }
 
-/// The four numbers of a size, or `refused NUMBER PLACE`.
-fn size(words: &[&str]) -> Result<Size, Refusal> {
-    match *words {
-        [clocked_roms, registers, length, largest_lead] => Ok(Size {
-            clocked_roms: parsed(clocked_roms),
-            registers: parsed(registers),
-            length: parsed(length),
-            largest_lead: parsed(largest_lead),
-        }),
-        ["refused", number, place] => Err(refusal(number, place)),
-        _ => panic!("no size: {words:?}"),
+/// The four numbers of a size and the registers by source, or `refused NUMBER PLACE` alone.
+fn previewed(words: &[&str], by_source: Option<Vec<u16>>) -> Result<Previewed, Refusal> {
+    match (words, by_source) {
+        (&[clocked_roms, registers, length, largest_lead], Some(by_source)) => {
+            let numbers = [clocked_roms, registers, length, largest_lead].map(parsed);
+            Ok(Previewed::new(numbers, by_source))
+        }
+        (["refused", number, place], None) => Err(refusal(number, place)),
+        (words, by_source) => panic!("no preview: {words:?}, by source {by_source:?}"),
     }
 }
 

@@ -3,8 +3,9 @@
 use harness::checks::checked;
 use harness::design::Design;
 use harness::netlist::{Kind, Netlist, Node};
+use harness::previewed::{compare_preview, Previewed};
 use harness::simulate::{outputs_len, state_len};
-use harness::{Answer, OnBytes, OneClock, Preview, Refusal, Size};
+use harness::{Answer, OnBytes, OneClock, Preview, Refusal};
 
 const REWRITERS: &[OnBytes] = &[
     harness::rewrite,
@@ -12,10 +13,10 @@ const REWRITERS: &[OnBytes] = &[
     harness::product::rewrite,
 ];
 
-const PREVIEWS: &[Preview] = &[
-    harness::preview,
+const PREVIEWS: &[(&str, Preview)] = &[
+    ("own", harness::preview),
     #[cfg(feature = "rewrite")]
-    harness::product::preview,
+    ("product", harness::product::preview),
 ];
 
 const RUNS: &[(OnBytes, OneClock)] = &[
@@ -42,22 +43,17 @@ fn rewritten(file: &[u8]) -> Result<Vec<u8>, Refusal> {
 fn refused(design: &Design, number: u16, place: u16) {
     let refusal = Refusal { number, place };
     assert_eq!(rewritten(&design.file()), Err(refusal));
-    for preview in PREVIEWS {
-        assert_eq!(preview(&design.file()), Err(refusal));
-    }
+    preview_is(&design.file(), Err(refusal));
 }
 
-/// Previews the file: clocked ROMs, registers, length, largest lead.
-fn size_is(file: &[u8], numbers: [usize; 4]) {
-    let [clocked_roms, registers, length, largest_lead] = numbers;
-    let size = Size {
-        clocked_roms,
-        registers,
-        length,
-        largest_lead,
-    };
-    for preview in PREVIEWS {
-        assert_eq!(preview(file), Ok(size));
+/// Previews the file: clocked ROMs, registers, length, largest lead; registers by source.
+fn size_is(file: &[u8], numbers: [usize; 4], by_source: &[u16]) {
+    preview_is(file, Ok(Previewed::new(numbers, by_source.to_vec())));
+}
+
+fn preview_is(file: &[u8], expected: Result<Previewed, Refusal>) {
+    for (name, preview) in PREVIEWS {
+        compare_preview(name, *preview, file, &expected);
     }
 }
 
@@ -91,7 +87,7 @@ fn one_bit() -> Design {
 fn empty() {
     let file = [1, 0, 1, 1, 4, 0, 0];
     assert_eq!(rewritten(&file), Ok(file.to_vec()));
-    size_is(&file, [0, 0, 7, 0]);
+    size_is(&file, [0, 0, 7, 0], &[]);
 }
 
 #[test]
@@ -112,7 +108,8 @@ fn adder() {
         0x00, 0x01, 0x04, 0x00, 0x00,
     ];
     assert_eq!(rewritten(&old), Ok(new.to_vec()));
-    size_is(&old, [1, 2, 65, 1]);
+    // The ROM, the adder, from which both registers come, and the port.
+    size_is(&old, [1, 2, 65, 1], &[0, 2, 0]);
     outputs_are(&old, &[NO_INPUTS; 5], &[1, 2, 0, 3, 1]);
     outputs_are(&new, &[NO_INPUTS; 5], &[1, 2, 0, 3, 1]);
 }
@@ -129,7 +126,7 @@ fn toggle() {
     expected.clocked_rom(0, 0, 1);
     expected.output(0);
     assert_eq!(new, expected.file());
-    size_is(&design.file(), [1, 0, 33, 1]);
+    size_is(&design.file(), [1, 0, 33, 1], &[0; 2]);
     outputs_are(&design.file(), &[NO_INPUTS; 4], &[1, 0, 1, 0]);
     outputs_are(&new, &[NO_INPUTS; 4], &[1, 0, 1, 0]);
 }
@@ -157,7 +154,7 @@ fn input_register_rom_output() {
         let rom = expected.clocked_rom(port, 0, word);
         expected.output(rom);
         assert_eq!(new, expected.file());
-        size_is(&design.file(), [1, 0, 38, 1]);
+        size_is(&design.file(), [1, 0, 38, 1], &[0; 3]);
         outputs_are(&new, &[&[0, 0], &[0, 1], &[0, 0]], &[word, 1, 0]);
     }
 }
@@ -176,7 +173,7 @@ fn input_rom_register_output() {
         let rom = expected.clocked_rom(port, 0, reset);
         expected.output(rom);
         assert_eq!(new, expected.file());
-        size_is(&design.file(), [1, 0, 38, 0]);
+        size_is(&design.file(), [1, 0, 38, 0], &[0; 3]);
     }
 }
 
@@ -199,7 +196,7 @@ fn two_registers_of_different_reset() {
     expected.output(first);
     expected.output(second);
     assert_eq!(new, expected.nodes);
-    size_is(&design.file(), [2, 0, 59, 0]);
+    size_is(&design.file(), [2, 0, 59, 0], &[0; 5]);
 }
 
 #[test]
@@ -240,5 +237,5 @@ fn output_one_byte_short() {
         assert_eq!(out, vec![0xa5; file.len()]);
         assert_eq!(rewrite(&file, &mut out), Ok(file.len()));
     }
-    size_is(&file, [0, 1, file.len(), 0]);
+    size_is(&file, [0, 1, file.len(), 0], &[1, 0]);
 }

@@ -1,14 +1,16 @@
 //! The harness against itself: random material is as varied as it should be, leads are what
-//! they are defined to be, old and rewritten netlists run alike, and so do tables with a fill
-//! word and the same tables spelled out.
+//! they are defined to be, previews tell what is in the rewritten files, old and rewritten
+//! netlists run alike, and so do tables with a fill word and the same tables spelled out.
 
 use std::hint::black_box;
+use std::mem::replace;
 
 use harness::checks::{checked, Checked};
 use harness::design::Design;
 use harness::format::{self, MAX_FILE};
 use harness::leads::{chains, leads};
-use harness::netlist::{Kind, Netlist, MAX_NODES};
+use harness::netlist::{Kind, Netlist, Node, MAX_NODES};
+use harness::previewed::{previewed, Previewed};
 use harness::random::{self, Entry, Random};
 use harness::refusal::{CLOSED_DEBT, GROWN, LOOP, PORT_DEBT, RING, SHORT, TABLE, TAG};
 use harness::rewrite::{retimed, Retimed};
@@ -231,8 +233,8 @@ fn previews_agree_with_rewriting() {
             file = random::damaged(&mut random, &file);
         }
         let answer = harness::rewrite(&file, &mut out);
-        let size = match harness::preview(&file) {
-            Ok(size) => size,
+        let Previewed { size, by_source } = match previewed(harness::preview, &file) {
+            Ok(previewed) => previewed,
             Err(refusal) => {
                 assert_eq!(answer, Err(refusal));
                 refused[usize::from(refusal.number)] += 1;
@@ -246,12 +248,16 @@ fn previews_agree_with_rewriting() {
         let new = format::read(new_file).expect("a rewritten file is well formed");
         assert_eq!(size.clocked_roms, new.count(Kind::ClockedRom));
         assert_eq!(size.registers, new.count(Kind::Register));
+        assert_eq!(size.sources, new.nodes.len() - size.registers);
         // Rewriting it once more changes nothing, and no node of it runs early.
-        let again = Size {
-            largest_lead: 0,
-            ..size
+        let again = Previewed {
+            size: Size {
+                largest_lead: 0,
+                ..size
+            },
+            by_source,
         };
-        assert_eq!(harness::preview(new_file), Ok(again));
+        assert_eq!(previewed(harness::preview, new_file), Ok(again));
         accepted += 1;
         early += usize::from(size.largest_lead > 1);
     }
@@ -261,6 +267,93 @@ fn previews_agree_with_rewriting() {
     for number in [CLOSED_DEBT, PORT_DEBT, GROWN] {
         assert!(refused[usize::from(number)] > 100, "{number}");
     }
+}
+
+/// The way back from a node to the first one that is no register: that one, and the registers
+/// passed, the node itself among them.
+fn way_back(netlist: &Netlist, mut number: u16) -> (u16, u16) {
+    let mut registers = 0;
+    while netlist.nodes[usize::from(number)].kind == Kind::Register {
+        number = netlist.nodes[usize::from(number)].sources[0];
+        registers += 1;
+    }
+    (number, registers)
+}
+
+/// Every register counted by itself, at the node that its way back leads to.
+fn registers_at_their_sources(netlist: &Netlist) -> Vec<u16> {
+    let mut counts = vec![0; netlist.nodes.len()];
+    for register in netlist.numbers(|kind| kind == Kind::Register) {
+        let (source, _) = way_back(netlist, register);
+        counts[usize::from(source)] += 1;
+    }
+    let sources = netlist.numbers(|kind| kind != Kind::Register);
+    sources.iter().map(|&n| counts[usize::from(n)]).collect()
+}
+
+/// For each node that is no register, the registers on the wires to its operands.
+fn registers_by_reader(netlist: &Netlist) -> Vec<u16> {
+    let wires = |reader: &Node| {
+        let operands = reader.sources().iter();
+        operands.map(|&operand| way_back(netlist, operand).1).sum()
+    };
+    let nodes = netlist.nodes.iter();
+    let readers = nodes.filter(|n| n.kind != Kind::Register);
+    readers.map(wires).collect()
+}
+
+fn sum(numbers: &[u16]) -> usize {
+    numbers.iter().copied().map(usize::from).sum()
+}
+
+/// The sources of the registers.
+fn read_by_registers(nodes: &[Node]) -> impl Iterator<Item = usize> + '_ {
+    let registers = nodes.iter().filter(|n| n.kind == Kind::Register);
+    registers.map(|register| usize::from(register.sources[0]))
+}
+
+fn has_registers_in_a_row(nodes: &[Node]) -> bool {
+    read_by_registers(nodes).any(|source| nodes[source].kind == Kind::Register)
+}
+
+/// Whether two registers read the same node.
+fn has_registers_side_by_side(nodes: &[Node]) -> bool {
+    let mut read = vec![false; nodes.len()];
+    read_by_registers(nodes).any(|source| replace(&mut read[source], true))
+}
+
+/// The list against the rewritten file, in which every register stands on one wire: it is counted
+/// once by its source and once by its reader.
+#[test]
+fn registers_by_source_and_by_reader() {
+    let mut random = Random::new(12);
+    let mut out = vec![0; MAX_FILE];
+    let [mut accepted, mut in_rows, mut parallel, mut large] = [0; 4];
+    for _ in 0..3_000 {
+        let design = match random.chance(80) {
+            true => random::netlist(&mut random),
+            false => random::grown(&mut random).0,
+        };
+        let file = design.file();
+        let Ok(Previewed { size, by_source }) = previewed(harness::preview, &file) else {
+            continue;
+        };
+        let length = harness::rewrite(&file, &mut out).expect("previewed before");
+        let new = format::read(&out[..length]).expect("a rewritten file is well formed");
+        assert_eq!(by_source, registers_at_their_sources(&new));
+        let by_reader = registers_by_reader(&new);
+        assert_eq!(by_reader.len(), size.sources);
+        assert_eq!(sum(&by_source), size.registers);
+        assert_eq!(sum(&by_reader), size.registers);
+
+        accepted += 1;
+        in_rows += usize::from(has_registers_in_a_row(&new.nodes));
+        parallel += usize::from(has_registers_side_by_side(&new.nodes));
+        large += usize::from(by_source.iter().any(|&registers| registers > 255));
+    }
+    println!("{accepted} lists counted again; {in_rows} with registers in a row, {parallel} with");
+    println!("several wires of registers from one source, {large} with more than 255 at one");
+    assert!(accepted > 2_000 && in_rows > 500 && parallel > 500 && large > 100);
 }
 
 #[test]
@@ -344,8 +437,8 @@ fn workloads_are_what_they_say() {
         assert_eq!(design.nodes.len(), nodes);
         assert_eq!(rewrite_refusal(&design.file()), None);
     }
-    let leads = harness::preview(&workloads::largest_leads().file());
-    assert_eq!(leads.map(|size| size.largest_lead), Ok(1_022));
+    let leads = previewed(harness::preview, &workloads::largest_leads().file());
+    assert_eq!(leads.map(|leads| leads.size.largest_lead), Ok(1_022));
     assert_eq!(
         rewrite_refusal(&workloads::closed_debt().file()),
         Some(CLOSED_DEBT)

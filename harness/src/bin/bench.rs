@@ -18,7 +18,7 @@ use harness::{
 };
 
 #[cfg(feature = "rewrite")]
-use harness::format::MAX_FILE;
+use harness::{format::MAX_FILE, preview::MAX_LIST};
 
 fn main() {
     services("16 tables of 1,024 words of 16 bits", workloads::typical());
@@ -159,17 +159,22 @@ fn compare_rewrite(file: &[u8]) -> Comparison {
 
 #[cfg(feature = "rewrite")]
 fn compare_preview(file: &[u8]) -> Comparison {
-    assert_eq!(product::preview(file), harness::preview(file));
-    let product = || _ = black_box(product::preview(black_box(file)));
-    let harness = || _ = black_box(harness::preview(black_box(file)));
+    let mut own = vec![0; MAX_LIST];
+    let mut other = own.clone();
+    let size = harness::preview(file, &mut own);
+    assert_eq!(product::preview(file, &mut other), size);
+    assert!(own == other, "the product counts other registers by source");
+    let product = || _ = black_box(product::preview(black_box(file), &mut other));
+    let harness = || _ = black_box(harness::preview(black_box(file), &mut own));
     compare(product, harness)
 }
 
 /// The ratio of the product's preview to its own rewriting, which it should not exceed.
 #[cfg(feature = "rewrite")]
 fn preview_to_rewrite(file: &[u8]) -> f64 {
+    let mut by_source = vec![0; MAX_LIST];
     let mut out = vec![0; MAX_FILE];
-    let preview = || _ = black_box(product::preview(black_box(file)));
+    let preview = || _ = black_box(product::preview(black_box(file), &mut by_source));
     let rewrite = || _ = black_box(product::rewrite(black_box(file), &mut out));
     compare(preview, rewrite).ratio
 }
@@ -281,6 +286,8 @@ struct Lent {
     outputs: Vec<u8>,
     #[cfg(feature = "rewrite")]
     out: Vec<u8>,
+    #[cfg(feature = "rewrite")]
+    by_source: Vec<u8>,
 }
 
 impl Lent {
@@ -300,6 +307,8 @@ impl Lent {
             outputs,
             #[cfg(feature = "rewrite")]
             out: vec![0; MAX_FILE],
+            #[cfg(feature = "rewrite")]
+            by_source: vec![0; MAX_LIST],
         }
     }
 }
@@ -356,7 +365,7 @@ fn stack() {
     #[cfg(feature = "rewrite")]
     print(
         "preview",
-        |l| product::preview(&l.file).map(|size| size.length),
-        |l| harness::preview(&l.file).map(|size| size.length),
+        |l| product::preview(&l.file, &mut l.by_source).map(|size| size.length),
+        |l| harness::preview(&l.file, &mut l.by_source).map(|size| size.length),
     );
 }

@@ -9,7 +9,14 @@ mod rewriting;
 mod whole_netlist;
 mod words_and_states;
 
-use harness::{Answer, Refusal, Size};
+use harness::previewed::{compare_preview, previewed, Previewed};
+use harness::{Answer, Preview, Refusal};
+
+const PREVIEWS: &[(&str, Preview)] = &[
+    ("own", harness::preview),
+    #[cfg(feature = "rewrite")]
+    ("product", harness::product::preview),
+];
 
 fn check(file: &[u8], answer: Answer) {
     assert_eq!(harness::check(file), answer, "own");
@@ -27,10 +34,10 @@ fn refused(file: &[u8], number: u16, place: usize) {
     preview_is(file, Err(Refusal::new(number, place)));
 }
 
-fn preview_is(file: &[u8], size: Result<Size, Refusal>) {
-    assert_eq!(harness::preview(file), size, "own");
-    #[cfg(feature = "rewrite")]
-    assert_eq!(harness::product::preview(file), size, "product");
+fn preview_is(file: &[u8], expected: Result<Previewed, Refusal>) {
+    for (name, preview) in PREVIEWS {
+        compare_preview(name, *preview, file, &expected);
+    }
 }
 
 /// The rewritten file of one that is accepted.
@@ -54,7 +61,7 @@ fn rewrite_is(file: &[u8], answer: Answer) {
     assert_eq!(harness::rewrite(file, &mut out), answer, "own");
     #[cfg(feature = "rewrite")]
     assert_eq!(harness::product::rewrite(file, &mut out), answer, "product");
-    let size = harness::preview(file);
-    assert_eq!(size.map(|size| size.length), answer, "preview");
-    preview_is(file, size);
+    let own = previewed(harness::preview, file);
+    assert_eq!(own.clone().map(|own| own.size.length), answer, "preview");
+    preview_is(file, own);
 }
