@@ -45,9 +45,12 @@ int main(void)
     uint8_t old_state[2]; /* the register */
     uint8_t new_state[6]; /* the clocked ROM, and a register for each reader of the add */
     const uint8_t no_inputs[1] = {0};
-    const struct punqelis_size size = punqelis_preview(old_file, sizeof old_file);
+    static const unsigned expected_sources[] = {0, 2, 0}; /* both registers read the add */
+    uint8_t by_source[PUNQELIS_MAX_SOURCES]; /* no list is longer */
+    const struct punqelis_size size =
+        punqelis_preview(old_file, sizeof old_file, by_source, sizeof by_source);
     uint32_t new_len;
-    size_t clock;
+    size_t clock, node;
 
     if (refused("preview", size.answer))
         return 1;
@@ -58,6 +61,20 @@ int main(void)
         || size.largest_lead != 1) {
         printf("not the expected size\n");
         return 1;
+    }
+
+    if (size.sources != sizeof expected_sources / sizeof expected_sources[0]) {
+        printf("not the expected number of sources\n");
+        return 1;
+    }
+    for (node = 0; node < size.sources; node++) {
+        const unsigned registers = by_source[2 * node] * 256u + by_source[2 * node + 1];
+
+        printf("registers from node %u: %u\n", (unsigned)node, registers);
+        if (registers != expected_sources[node]) {
+            printf("expected %u\n", expected_sources[node]);
+            return 1;
+        }
     }
 
     /* As many bytes as the preview says are enough, and all of them are written. */

@@ -6,7 +6,7 @@
  * word and the first words; an address past the last word reads the fill word.
  * Link with libpunqelis.a, which `rt staticlib punqelis` writes to target/staticlib/.
  *
- * Every function answers one number, the preview three more beside it:
+ * Every function answers one number, the preview four more beside it:
  *   below 65,536   accepted, and the number is a length in bytes (see each function);
  *   from 65,536 on refused, and the number is the refusal's number times 65,536 plus its place.
  * PUNQELIS_IS_REFUSED and the two macros after it take an answer apart.
@@ -19,8 +19,8 @@
  *
  * Memory. The caller lends the memory that is read and written; none of it is kept after a call.
  * A pointer must not be NULL, also where its length is 0. Memory that a function writes (state,
- * outputs, out) must not overlap with any other memory lent to the same call. When a call is
- * refused, no lent byte has changed. Bytes past the length that is answered are never changed.
+ * outputs, out, by_source) must not overlap with any other memory lent to the same call. When a
+ * call is refused, no lent byte has changed. Bytes past the result are never changed.
  *
  * Refusals, in the order in which they are looked for:
  *    1 long         the file has over 46,000 bytes                        place 0
@@ -39,7 +39,7 @@
  *   12 port debt    an input port's words would be needed too early       lowest such port
  *   13 grown        the rewritten netlist has over 1,024 nodes            place 65,535
  *   14 out          the output is shorter than the rewritten file;        place 65,535
- *                   the preview has no output, and never answers it
+ *                   of the preview: by_source is too short
  *   15 words        inputs or outputs do not fit the file                 place 65,535
  *   16 state        the state does not fit the file                       place 65,535
  */
@@ -55,6 +55,9 @@
 
 /* No file that is accepted is longer. (The limits of document 01 and of tag 5 allow 45,175.) */
 #define PUNQELIS_MAX_FILE 46000
+
+/* A list of registers by source has at most 1,024 numbers of two bytes. */
+#define PUNQELIS_MAX_SOURCES 2048
 
 #ifdef __cplusplus
 extern "C" {
@@ -92,13 +95,22 @@ struct punqelis_size {
     uint32_t clocked_roms; /* its nodes of kind 4 */
     uint32_t registers;    /* its nodes of kind 2; a clocked ROM's own register is none */
     uint32_t largest_lead; /* how many clocks early a node of it runs, at most */
+    uint32_t sources;      /* its nodes that are no registers: how many numbers by_source has */
 };
 
 /* Previews a rewriting: what punqelis_rewrite would answer for the file into an output that is
- * long enough, and how many memories and registers the new file would have. Writes nothing.
- * Checks 1 to 10, then 11 to 13. An output of answer bytes is just enough for punqelis_rewrite.
- * It takes as long as rewriting, less the writing. */
-struct punqelis_size punqelis_preview(const uint8_t *file, size_t file_len);
+ * long enough, and how many memories and registers the new file would have. An output of answer
+ * bytes is just enough for punqelis_rewrite.
+ * Writes to by_source, for each node of the new file that is no register, in the order of their
+ * node numbers, how many registers stand on the wires that come from it: those that read it,
+ * those that read these, and so on. A number has two bytes, the high byte first; there are
+ * sources of them, and their sum is registers. In the new file all registers come last, so the
+ * numbers are those of the nodes 0, 1, and so on. The bytes behind them stay. by_source must not
+ * overlap with the file. 2,048 bytes (PUNQELIS_MAX_SOURCES) are always enough for it.
+ * Checks 1 to 10, then 11 to 13, then by 14 whether by_source has two bytes for each number.
+ * It takes about as long as rewriting. */
+struct punqelis_size punqelis_preview(const uint8_t *file, size_t file_len,
+                                      uint8_t *by_source, size_t by_source_len);
 
 #ifdef __cplusplus
 }
