@@ -5,10 +5,10 @@
 use mathlib.Core.Path.{_≡_, refl, sym, ap, _∙_}
 use mathlib.Core.Bool.{true, false}
 use mathlib.Core.List.{List, _++_}
-use Prim.Native.Nat.{ℕ, _*_, _≤_, _<_}
+use Prim.Native.Nat.{ℕ, suc, _*_, _≤_, _<_}
 use lib.ListN.{length, take, drop}
 use Rattle.lists.specs.Lists.{total}
-use Rattle.netlist.specs.Net.{Net, size, elementAt, isRegister}
+use Rattle.netlist.specs.Net.{Net, size, elementAt, source, isRegister}
 use Rattle.netlist.specs.File.{Decoded, bad, good, decode}
 use Rattle.codec.specs.Bytes.{Bytes}
 use Rattle.behaviour.specs.Service.{bytesOf}
@@ -16,7 +16,8 @@ use Rattle.behaviour.specs.WordBytes.{length-bytes}
 use Rattle.retiming.specs.declared.Size.{Size}
 use Rattle.retiming.specs.declared.Preview.{Preview}
 use Rattle.retiming.specs.declared.Preview.the-variants.{Fits, Refused}
-use Rattle.retiming.specs.Rewrite.{rewritten}
+use Rattle.retiming.specs.Rewrite.{passed, rewritten}
+use Rattle.retiming.specs.Wires.{wire-next, wire-none}
 use Rattle.retiming.specs.FileRewrite.{rewriteFile}
 use Rattle.retiming.specs.RewrittenFile.{Past13}
 use Rattle.retiming.specs.BySource.{onWireFrom, bySource, byReader}
@@ -25,16 +26,20 @@ use Rattle.retiming.specs.NewRegisters.{new-sourced, new-rooted, sum-by-
 use Rattle.retiming.specs.Preview.{measured, sizeOf, sourceBytes, previewFile}
 use Rattle.retiming.specs.PreviewLaws.{fits-past, fits-size, fits-room, fits-list, fits-written, refused-list}
 
--- in a netlist M: register s is counted at u, which is none, just when s reads u, or a register that does so
-abbrev pub ByHand : Net → Type 0
-ByHand M = (u s : ℕ) → isRegister (elementAt M u) ≡ false → s < size M → (onWireFrom M u s ≡ true → FromSource M u s) × (FromSource M u s → onWireFrom M u s ≡ true)
+-- by source: register s of a netlist M is counted at u, which is none, just when s reads u, or a register that does so
+abbrev pub SourcesByHand : Net → Type 0
+SourcesByHand M = (u s : ℕ) → isRegister (elementAt M u) ≡ false → s < size M → (onWireFrom M u s ≡ true → FromSource M u s) × (FromSource M u s → onWireFrom M u s ≡ true)
+
+-- by reader: an operand that is no register has none on its wire; a register is one, with those on the wire to it
+abbrev pub ReadersByHand : Net → Type 0
+ReadersByHand M = (s : ℕ) → (isRegister (elementAt M s) ≡ false → passed M s ≡ 0) × (s < size M → isRegister (elementAt M s) ≡ true → passed M s ≡ suc (passed M (source M s 0)))
 
 -- the list, before and after, and the sums, of the netlist that was read
 abbrev pub Listed : Size → List ℕ → List ℕ → Decoded → Type 0
 Listed z before after (bad k p) = ⊥
 Listed z before after (good M) =
     (length (bySource M) ≡ z .sources) × (2 * z .sources ≤ length before) × (after ≡ bytesOf (bySource M) ++ drop (2 * z .sources) before)
-    × (total (bySource M) ≡ z .registers) × (total (byReader M) ≡ z .registers) × ByHand M
+    × (total (bySource M) ≡ z .registers) × (total (byReader M) ≡ z .registers) × SourcesByHand M × ReadersByHand M
 
 abbrev pub GivesList : List ℕ → List ℕ → List ℕ → Preview → Type 0
 GivesList s before after (Fits z) = (out : List ℕ) → z .length ≤ length out → Listed z before after (decode (take (z .length) (rewriteFile s out .out)))
@@ -59,5 +64,6 @@ registers-by-source s l b = by-preview (previewFile s l .preview) refl
           sum-by-source s b t ∙ g,
           sum-by-reader s b t ∙ g,
           λ u v other h. from-source M (new-sourced s b t) (new-rooted s b t) u other v h,
+          λ v. (λ other. wire-none M v other .1, λ h r. wire-next M (new-rooted s b t) v h r .1),
         )
     by-preview (Refused k p) e = refused-list s l e
