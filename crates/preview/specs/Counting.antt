@@ -2,9 +2,8 @@
 use mathlib.Core.Path.{_≡_, refl, sym, ap, ap₂, _∙_}
 use mathlib.Core.Logic.{⊎-elim}
 use mathlib.Core.Bool.{Bool, _&&_}
-use mathlib.Core.List.{List, [], _∷_, _++_, map}
+use mathlib.Core.List.{List, _∷_, _++_, map}
 use Prim.Native.Nat.{ℕ, zero, suc, _+_, _-_, _*_, _≤_, _<_}
-use native.Mathlib.Nat.{not-suc-le-zero, le-of-suc-le-suc}
 use native.Mathlib.Decide.{ℕ-discrete}
 use native.Mathlib.Numerals.{add-one}
 use native.Mathlib.Omega.{arith}
@@ -24,13 +23,6 @@ use Rattle.retiming.specs.RegistersLast.{RegistersLast, source-list}
 use Rattle.retiming.specs.Preview.{sourceBytes}
 
 -- ---- bytes set to 0
-
-pub zero-more : (l : List ℕ) (i : ℕ) → i < length l → set (replicate i 0 ++ drop i l) i 0 ≡ replicate (i + 1) 0 ++ drop (i + 1) l
-zero-more [] i h = absurd (not-suc-le-zero h)
-zero-more (x ∷ l) zero h = refl
-zero-more (x ∷ l) (suc i) h =
-    let k : suc (i + 1) ≡ suc i + 1 = omega arith in
-    ap (λ (r : List ℕ). 0 ∷ r) (zero-more l i (le-of-suc-le-suc h)) ∙ ap (λ (j : ℕ). replicate j 0 ++ drop j (x ∷ l)) k
 
 -- the first k numbers are 0
 abbrev pub Zeroed : List ℕ → ℕ → Type 0

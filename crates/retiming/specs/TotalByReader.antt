@@ -2,7 +2,7 @@
 -- Assumes nothing.
 use mathlib.Core.Path.{_≡_, sym, ap, subst, _∙_}
 use mathlib.Core.Logic.{⊎-elim}
-use mathlib.Core.List.{List, map}
+use mathlib.Core.List.{List, map, map-map}
 use Prim.Native.Nat.{ℕ, zero, suc, _+_, _-_, _≤_, _<_}
 use native.Mathlib.Omega.{arith}
 use lib.ListN.{length, getD, length-append, length-map, List·getD-append}
@@ -10,7 +10,7 @@ use lib.Seq.{ext-getD}
 use Rattle.netlist.specs.declared.Node.{Node}
 use Rattle.lists.specs.Lists.{below, total}
 use Rattle.lists.specs.BelowLaws.{lt-or-le, length-listed, getD-listed, getD-map-lt}
-use Rattle.lists.specs.ListsLaws.{map-map, listed-same}
+use Rattle.lists.specs.ListsLaws.{listed-same}
 use Rattle.lists.specs.TotalLaws.{length-concatMap, total-concatMap}
 use Rattle.netlist.specs.Net.{Net, size, nodeAt, elementAt, source, operands, isRegister, countOf}
 use Rattle.retiming.specs.Rewrite.{Timing, Place, Entry, Reg, passed, countOn, newTable, copies, wiresOf, wiresAll, wirePlaces, entriesOf, regsOn, entryPlaces, regPlaces, places, numberOf, along, nodeOf, rewrittenWith}

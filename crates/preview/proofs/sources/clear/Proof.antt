@@ -4,7 +4,7 @@ use mathlib.Core.List.{List, _++_}
 use Prim.Native.Nat.{ℕ, _-_, _≤_}
 use native.Mathlib.Omega.{arith}
 use lib.ListN.{length, set, drop, replicate, length-set}
-use Rattle.preview.specs.Counting.{zero-more}
+use borrow.Author.Fill.{fill-none, fill-more}
 use Rattle.preview.proofs.sources.clear.Statement.{statement}
 use Rattle.preview.proofs.sources.clear.Tie as tie
 
@@ -15,7 +15,7 @@ abbrev μ-loop : tie.MeasureT-loop
 μ-loop list₀ n i₀ list i = n - i
 
 loop-holds : tie.Need-loop-holds Inv-loop μ-loop
-loop-holds c = (omega arith, refl, refl)
+loop-holds c = (omega arith, refl, fill-none _ 0)
 
 slice-write-list : tie.Need-slice-write-list Inv-loop μ-loop
 slice-write-list c = omega (arith, c .before .loop .inv .1, c .before .before .pre)
@@ -31,7 +31,7 @@ loop-again c =
     let a = c .before .before .args in
     let k = c .before .loop in
     let h = c .loop-test .taken in
-    (omega arith, length-set (k .list) (k .i) 0 ∙ k .inv .1, ap (λ (l : List ℕ). set l (k .i) 0) (k .inv .2) ∙ zero-more (a .list .now) (k .i) (omega (arith, c .before .before .pre)))
+    (omega arith, length-set (k .list) (k .i) 0 ∙ k .inv .1, ap (λ (l : List ℕ). set l (k .i) 0) (k .inv .2) ∙ fill-more (k .i) 0 (a .list .now) (omega (arith, c .before .before .pre)))
 
 same-length : tie.Need-same-length Inv-loop μ-loop
 same-length c = c .before .loop .inv .1
