@@ -8,10 +8,11 @@ use Prim.Native.Nat.{ℕ, _*_, _≤_}
 use lib.ListN.{length, getD, take, drop, replicate, List·getD-eq-default}
 use lib.Dec.{ltb, lit<}
 use borrow.Author.Tests.{ltb-true}
-use Rattle.lists.specs.Lists.{select, allBelow}
+use Rattle.lists.specs.Lists.{below, select, allBelow}
 use Rattle.lists.specs.BelowLaws.{lt-or-le, allBelow-elim}
 use Rattle.netlist.specs.Net.{size, elementAt, isRegister}
 use Rattle.netlist.specs.File.{Decoded, bad, good, decode}
+use Rattle.netlist.specs.Offsets.{fieldsOf, offsetOf}
 use Rattle.netlist.specs.declared.Answer.{Answer}
 use Rattle.netlist.specs.declared.Answer.the-variants.{Accepted, Refused}
 use Rattle.codec.specs.Bytes.{Bytes}
@@ -25,6 +26,7 @@ use Rattle.retiming.specs.FileRewrite.{Rewrote, rewrittenFile, rewriteFi
 use Rattle.retiming.specs.BySource.{byReader}
 use Rattle.retiming.specs.Preview.{Previewed, previewFile}
 use Rattle.retiming.specs.Demand3.{demand-3}
+use Rattle.retiming.specs.RunningOffset.{newNet}
 use Rattle.retiming.specs.Computing.{computing}
 
 -- ---- what is asked of a file
@@ -333,6 +335,11 @@ bench = empty ∷ adder ∷ toggle ∷ bare ∷ before ∷ behind ∷ split ∷ 
 pub bench-holds : map found bench ≡ map expected bench
 unfolding computing leadsIn readersIn lent outputWords foundBy found expected clock sized refused adderOver empty adder toggle bare before behind split turned owing filledAdder row bench
 bench-holds = refl
+
+-- T-04: the offsets of the new adder's fields, the head's, its table's, its five nodes', the end's, and behind that the file's length
+adder-offsets : map (offsetOf (newNet (adder .file))) (below 9) ≡ 0 ∷ 4 ∷ 17 ∷ 27 ∷ 37 ∷ 44 ∷ 53 ∷ 62 ∷ 65 ∷ []
+unfolding computing adder adderOver clock sized fieldsOf offsetOf
+adder-offsets = refl
 
 -- ---- and not for the first clocks alone: demand 3, for instance of the adder
 

@@ -42,6 +42,7 @@ pub mod LargestLead
 pub mod PreviewLaws
 pub mod PreviewAgrees
 pub mod RegistersBySource
+pub mod RunningOffset
 pub mod Respelled
 pub mod AnswerAlike
 pub mod Computing
