@@ -27,7 +27,7 @@ fn held(op: usize) -> usize
 }
 
 // How long the content of a gate is, by the number of its operation.
-pub fn gate_length(op: usize) -> usize
+fn gate_length(op: usize) -> usize
     requires { ⌜ op < 12 ⌝ }
     ensures { λ r. ⌜ r ≡ gateLength op ⌝ }
 {

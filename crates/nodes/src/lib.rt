@@ -1,7 +1,6 @@
 // Reads the content of a node field.
 pub mod good;
 
-use netlist::Element;
 use words::Op;
 use words::operand_count;
 use words::word_at;
@@ -12,7 +11,6 @@ ghost use lib.Dec.{ltb};
 ghost use Rattle.lists.specs.Paths.{pick};
 ghost use Rattle.words.specs.Words.{word};
 ghost use Rattle.words.specs.Gates.{operandsOf};
-ghost use Rattle.netlist.specs.Net.{operands};
 ghost use Rattle.netlist.specs.NodeField.{opNumber, plainOp, sourcesFrom};
 
 // The operation that is its number alone.
@@ -55,21 +53,10 @@ pub fn op_index(op: Op) -> usize
 }
 
 // The number of sources of an operation, by the table of twelve.
-fn op_sources(op: Op) -> usize
+pub fn op_sources(op: Op) -> usize
     ensures { λ r. ⌜ r ≡ operandsOf op ⌝ }
 {
     operand_count(op_index(op))
-}
-
-// The number of sources of an element.
-pub fn source_count(e: Element) -> usize
-    ensures { λ r. ⌜ r ≡ operands e ⌝ }
-{
-    match e {
-        Element::Input => 0,
-        Element::Gate(op) => op_sources(op),
-        _ => 1,
-    }
 }
 
 // The word at a place, or 0 where i is not below n.

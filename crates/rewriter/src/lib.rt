@@ -12,7 +12,7 @@ ghost use Rattle.netlist.specs.File.{encode};
 ghost use Rattle.circuit.specs.Circuit.{netOf, Circuit};
 ghost use Rattle.retiming.specs.FileRewrite.{written, rewriteFile};
 
-// Writes the file of a circuit, where the output is long enough for it: 14.
+// Writes the file of a circuit, where the output is long enough for it: 14. The answer is the offset behind its end field.
 fn write_fitting(file: &[u8], net: &[u16], out: &mut [u8]) -> Answer
     ghost { Net }
     requires { λ N. ⌜ netOf (now file) (now net) ≡ N ⌝ ∗ ⌜ Circuit (now file) (now net) ⌝ }
@@ -22,8 +22,7 @@ fn write_fitting(file: &[u8], net: &[u16], out: &mut [u8]) -> Answer
     if out.len() < length {
         return Answer::Refused(14, 65535);
     }
-    write_circuit(file, net, out);
-    Answer::Accepted(length)
+    Answer::Accepted(write_circuit(file, net, out))
 }
 
 // Rewrites a file into the output: accepted with the new file's length, or the refusal, after which no byte of the output differs.

@@ -1,7 +1,7 @@
--- The file of a netlist, part after part. Assumes nothing.
-use mathlib.Core.Path.{_≡_, _∙_}
+-- The file of a netlist, field after field: the offset that is carried along, and what stands in the output. Assumes nothing.
+use mathlib.Core.Path.{_≡_, sym, ap, _∙_}
 use mathlib.Core.List.{List, [], _∷_, _++_}
-use Prim.Native.Nat.{ℕ, _+_, zero-le}
+use Prim.Native.Nat.{ℕ, _+_, _≤_, _<_}
 use native.Mathlib.Omega.{arith}
 use lib.ListN.{length, getD, drop, length-append}
 use Rattle.lists.specs.Lists.{concatMap}
@@ -9,7 +9,9 @@ use Rattle.netlist.specs.declared.Node.{Node}
 use Rattle.netlist.specs.Net.{Net, nowhere, nodeAt}
 use Rattle.netlist.specs.Field.{field}
 use Rattle.netlist.specs.File.{tableBytes, nodeBytes, encode}
-use Rattle.writer.specs.Written.{Puts, puts-more, written-front}
+use Rattle.netlist.specs.Offsets.{fieldsOf, fieldAt, offsetOf, fields-file, offset-length, offset-next, offset-within}
+use Rattle.writer.specs.Written.{Puts, puts-as, written-front}
+use Rattle.saving.specs.Firsts.{firsts, Writing, writing-none, writing-done}
 
 module _ (N : Net) where
   abbrev tables : List ℕ
@@ -22,13 +24,30 @@ module _ (N : Net) where
   unfolding encode
   encode-length = omega (arith, length-append (field 1 (1 ∷ []) ++ tables ++ nodes) (field 4 []), length-append (field 1 (1 ∷ []) ++ tables) nodes, length-append (field 1 (1 ∷ [])) tables)
 
-  pub encode-written : {o o₁ o₂ o₃ o₄ : List ℕ} {p₁ p₂ p₃ p₄ : ℕ}
-      → Puts o 0 (field 1 (1 ∷ [])) p₁ o₁ → Puts o₁ p₁ (concatMap tableBytes (N .tables)) p₂ o₂ → Puts o₂ p₂ (concatMap nodeBytes (N .nodes)) p₃ o₃ → Puts o₃ p₃ (field 4 []) p₄ o₄
-      → (p₄ ≡ length (encode N)) × (o₄ ≡ encode N ++ drop (length (encode N)) o)
-  unfolding encode
-  encode-written {o} {o₄ = o₄} {p₄ = p₄} h t n x =
-      let all : Puts o 0 (encode N) p₄ o₄ = puts-more zero-le (puts-more zero-le (puts-more zero-le h t) n) x in
-      (omega (arith, all .offset), all .holds ∙ written-front o (encode N))
+  -- field k has room at its offset where the file has, and behind it is the next offset
+  module _ {k at : ℕ} (low : k < length (fieldsOf N)) (here : at ≡ offsetOf N k) {b : List ℕ} (is : fieldAt N k ≡ b) where
+    pub field-fits : {n : ℕ} → length (encode N) ≤ n → at + length b ≤ n
+    field-fits h = omega (arith, here, ap length is, offset-next N k low, offset-within N (k + 1))
+
+    pub field-put : {o o′ : List ℕ} {next : ℕ} → Puts o at b next o′ → Puts o at (fieldAt N k) next o′ × (next ≡ offsetOf N (k + 1))
+    field-put p = (puts-as (sym is) p, omega (arith, p .offset, here, offset-next N k low, ap length is))
+
+  -- the first k fields stand at the front of the output, and the offset behind them is carried
+  abbrev pub Carrying : List ℕ → ℕ → ℕ → List ℕ → Type 0
+  Carrying o₀ k at o = Writing (λ b. b) (fieldsOf N) o₀ 0 k at o
+
+  pub carrying-none : {o : List ℕ} → length (encode N) ≤ length o → Carrying o 0 0 o
+  carrying-none h = writing-none (λ b. b) (fieldsOf N) (omega (arith, ap length (fields-file N)))
+
+  module _ {o₀ o : List ℕ} {k at : ℕ} (t : Carrying o₀ k at o) where
+    pub carried : at ≡ offsetOf N k
+    unfolding firsts
+    carried = omega (arith, t .puts .offset, offset-length N k)
+
+    pub file-written : length (fieldsOf N) ≤ k → (at ≡ length (encode N)) × (o ≡ encode N ++ drop (length (encode N)) o₀)
+    file-written h =
+        let all : Puts o₀ 0 (encode N) at o = puts-as (fields-file N) (writing-done t h) in
+        (omega (arith, all .offset), all .holds ∙ written-front o₀ (encode N))
 
 -- node v of the list
 pub listed-node : (N : Net) (v : ℕ) {x : Node} → x ≡ nodeAt N v → x ≡ getD (N .nodes) v nowhere

@@ -3,7 +3,7 @@ use mathlib.Core.Path.{_≡_, refl, sym, ap, _∙_}
 use mathlib.Core.List.{List, [], _∷_, _++_, append-nil}
 use Prim.Native.Nat.{ℕ, suc, _+_, _*_, _≤_, _<_, zero-le}
 use native.Mathlib.Omega.{arith}
-use lib.ListN.{length, getD, take, drop, take-append-drop, length-append}
+use lib.ListN.{length, getD, take, length-append}
 use lib.Seq.{take-suc, take-all}
 use Rattle.lists.specs.Lists.{concatMap}
 use Rattle.lists.specs.ListsLaws.{concatMap-append}
@@ -29,15 +29,6 @@ module _ {A : Type 0} (f : A → List ℕ) (xs : List A) where
       let e : i + 1 ≡ suc i = omega arith in
       ap (λ (k : ℕ). concatMap f (take k xs)) e ∙ ap (concatMap f) (take-suc xs i d h) ∙ concatMap-append f (take i xs) (getD xs i d ∷ []) ∙ ap (λ (y : List ℕ). concatMap f (take i xs) ++ y) (append-nil (f (getD xs i d)))
 
-  firsts-rest : (i : ℕ) → concatMap f xs ≡ firsts i ++ concatMap f (drop i xs)
-  unfolding firsts
-  firsts-rest i = ap (concatMap f) (sym (take-append-drop i xs)) ∙ concatMap-append f (take i xs) (drop i xs)
-
-  -- there is room for the next where there is for all
-  firsts-room : (i : ℕ) (d : A) → i < length xs → length (firsts i) + length (f (getD xs i d)) ≤ length (concatMap f xs)
-  firsts-room i d h =
-      omega (arith, ap length (firsts-rest (i + 1)), length-append (firsts (i + 1)) (concatMap f (drop (i + 1) xs)), ap length (firsts-next i d h), length-append (firsts i) (f (getD xs i d)))
-
 -- ---- the first i items are written
 
 pub record Writing {A : Type 0} (f : A → List ℕ) (xs : List A) (o₀ : List ℕ) (at i next : ℕ) (o : List ℕ) : Type 0 where
@@ -51,9 +42,6 @@ writing-none f xs h = record { below = zero-le; kept = refl; room = h; puts = pu
 
 module _ {A : Type 0} {f : A → List ℕ} {xs : List A} {o₀ : List ℕ} {at i next : ℕ} {o : List ℕ} (t : Writing f xs o₀ at i next o) where
   module _ (d : A) (h : i < length xs) {x : A} (e : x ≡ getD xs i d) where
-    pub writing-fits : next + length (f x) ≤ length o
-    writing-fits = omega (arith, t .kept, t .room, t .puts .offset, firsts-room f xs i d h, ap (λ (y : A). length (f y)) e)
-
     pub writing-more : {last : ℕ} {o″ : List ℕ} → length o″ ≡ length o → Puts o next (f x) last o″ → Writing f xs o₀ at (i + 1) last o″
     writing-more k p = record {
       below = omega arith;

@@ -1,4 +1,4 @@
-// The file of a circuit: how long it is, and its writing. The head, the tables, the nodes, the end.
+// The file of a circuit: how long it is, and its writing, field by field at an offset that is carried along.
 use circuit::code_of;
 use circuit::node_count;
 use circuit::source_count;
@@ -17,6 +17,7 @@ ghost use lib.ListN.{length, drop};
 ghost use Rattle.lists.specs.Lists.{concatMap};
 ghost use Rattle.netlist.specs.Net.{Net, size, nodeAt};
 ghost use Rattle.netlist.specs.File.{tableBytes, nodeBytes, encode};
+ghost use Rattle.netlist.specs.Offsets.{fieldsOf, fieldAt, offsetOf};
 ghost use Rattle.circuit.specs.Circuit.{netOf, Circuit};
 ghost use Rattle.circuit.specs.Opened.{opened};
 ghost use Rattle.writer.specs.Written.{Puts};
@@ -88,45 +89,47 @@ pub fn circuit_length(file: &[u8], net: &[u16]) -> usize
     7 + tables_length(file, net) + nodes_length(file, net)
 }
 
-// Writes the fields of the tables at an offset, and those of the nodes.
-fn put_tables(file: &[u8], net: &[u16], out: &mut [u8], at: usize) -> usize
+// How many fields the file has: the head, the tables, the nodes, the end.
+fn field_count(file: &[u8], net: &[u16]) -> usize
     ghost { Net }
-    requires { λ N. opened 𝓤 (now file) (now net) N (at + length (concatMap tableBytes (N .tables)) ≤ length (now out)) }
-    ensures { λ N r. ⌜ Puts (now (out .entry)) at (concatMap tableBytes (N .tables)) r (now (out .exit)) ⌝ }
+    requires { λ N. ⌜ netOf (now file) (now net) ≡ N ⌝ ∗ ⌜ Circuit (now file) (now net) ⌝ }
+    ensures { λ N r. ⌜ (r ≡ length (fieldsOf N)) × (r ≤ 1042) ⌝ }
 {
-    let n = table_count(file, net);
-    let mut next = at;
-    let mut k: usize = 0;
-    while k < n {
-        next = copy_table(file, table_place(file, net, k), out, next);
-        k = k + 1;
-    }
-    next
+    2 + table_count(file, net) + node_count(file, net)
 }
 
-fn put_nodes(file: &[u8], net: &[u16], out: &mut [u8], at: usize) -> usize
+// Writes field k at the offset that is carried along, and gives the next one: before each field it is the sum of the whole lengths of the fields before.
+fn put_field(file: &[u8], net: &[u16], k: usize, out: &mut [u8], at: usize) -> usize
     ghost { Net }
-    requires { λ N. opened 𝓤 (now file) (now net) N (at + length (concatMap nodeBytes (N .nodes)) ≤ length (now out)) }
-    ensures { λ N r. ⌜ Puts (now (out .entry)) at (concatMap nodeBytes (N .nodes)) r (now (out .exit)) ⌝ }
+    requires { λ N. opened 𝓤 (now file) (now net) N ((k < length (fieldsOf N)) × (at ≡ offsetOf N k) × (length (encode N) ≤ length (now out))) }
+    ensures { λ N r. ⌜ Puts (now (out .entry)) at (fieldAt N k) r (now (out .exit)) × (r ≡ offsetOf N (k + 1)) ⌝ }
 {
-    let n = node_count(file, net);
-    let mut next = at;
-    let mut v: usize = 0;
-    while v < n {
-        next = put_node(out, next, node_of(file, net, v));
-        v = v + 1;
+    if k == 0 {
+        return put_head(out, at);
     }
-    next
+    let tables = table_count(file, net);
+    if k <= tables {
+        return copy_table(file, table_place(file, net, k - 1), out, at);
+    }
+    let v = k - 1 - tables;
+    if v < node_count(file, net) {
+        return put_node(out, at, node_of(file, net, v));
+    }
+    put_end(out, at)
 }
 
-// Writes the file at the front of the output, where the bytes past it stay, and gives its length.
+// Writes the file at the front of the output, where the bytes past it stay, and gives the offset behind the end field, which is its length.
 pub fn write_circuit(file: &[u8], net: &[u16], out: &mut [u8]) -> usize
     ghost { Net }
     requires { λ N. opened 𝓤 (now file) (now net) N (length (encode N) ≤ length (now out)) }
     ensures { λ N r. ⌜ (r ≡ length (encode N)) × (now (out .exit) ≡ encode N ++ drop (length (encode N)) (now (out .entry))) ⌝ }
 {
-    let after_head = put_head(out, 0);
-    let after_tables = put_tables(file, net, out, after_head);
-    let after_nodes = put_nodes(file, net, out, after_tables);
-    put_end(out, after_nodes)
+    let fields = field_count(file, net);
+    let mut at: usize = 0;
+    let mut k: usize = 0;
+    while k < fields {
+        at = put_field(file, net, k, out, at);
+        k = k + 1;
+    }
+    at
 }

@@ -1,3 +1,4 @@
 pub mod Written
 pub mod Turn
 pub mod Copied
+pub mod NodeWritten

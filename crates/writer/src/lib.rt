@@ -2,22 +2,22 @@
 // `Puts before at bytes next after` says both, and that no other byte of the output differs.
 use netlist::Element;
 use netlist::Node;
-use nodes::good::gate_length;
+use nodes::Sources;
 use nodes::op_index;
-use nodes::source_count;
+use nodes::op_sources;
 use words::Op;
 use words::word_at;
 ghost use mathlib.Core.Path.{_≡_};
-ghost use mathlib.Core.List.{[], _∷_};
-ghost use Prim.Native.Nat.{_+_, _-_, _*_, _≤_};
+ghost use mathlib.Core.List.{[], _∷_, _++_};
+ghost use Prim.Native.Nat.{_+_, _*_, _≤_};
 ghost use lib.ListN.{length};
 ghost use Rattle.words.specs.Words.{bytes};
 ghost use Rattle.netlist.specs.Field.{field};
-ghost use Rattle.netlist.specs.NodeField.{kindOf, opNumber, opExtra, beforeSources, afterSources, sourceBytes, nodeContent};
+ghost use Rattle.netlist.specs.NodeField.{opNumber, sourceBytes};
 ghost use Rattle.netlist.specs.ScanLaws.{TableAt};
 ghost use Rattle.netlist.specs.File.{tableIn, tableBytes, nodeBytes};
-ghost use Rattle.codec.specs.ContentLength.{contentLength};
 ghost use Rattle.writer.specs.Written.{Puts};
+ghost use Rattle.writer.specs.NodeWritten.{gate};
 
 // One byte.
 fn put_byte(out: &mut [u8], at: usize, x: u8) -> usize
@@ -93,20 +93,6 @@ pub fn copy_table(file: &[u8], from: usize, out: &mut [u8], at: usize) -> usize
     put_bytes(out, at, &file[from..end])
 }
 
-// The number of a kind.
-fn kind_of(e: Element) -> u8
-    ensures { λ r. ⌜ r ≡ kindOf e ⌝ }
-{
-    match e {
-        Element::Input => 0,
-        Element::Output => 1,
-        Element::Register(_) => 2,
-        Element::Async(_) => 3,
-        Element::Clocked(_, _) => 4,
-        Element::Gate(_) => 5,
-    }
-}
-
 // The number of an operation.
 fn op_number(op: Op) -> u8
     ensures { λ r. ⌜ r ≡ opNumber op ⌝ }
@@ -114,39 +100,32 @@ fn op_number(op: Op) -> u8
     op_index(op) as u8
 }
 
-// The length of a node's content.
-pub fn content_length(e: Element) -> u16
-    ensures { λ r. ⌜ r ≡ contentLength e ⌝ }
+// What a node's field begins with: its tag, the length of its content, its kind and its width.
+fn put_front(out: &mut [u8], at: usize, size: u16, kind: u8, width: u8) -> usize
+    requires { ⌜ at + 5 ≤ length (now out) ⌝ }
+    ensures { λ r. ⌜ Puts (now (out .entry)) at (3 ∷ bytes size ++ kind ∷ width ∷ []) r (now (out .exit)) ⌝ }
 {
-    match e {
-        Element::Input => 2,
-        Element::Output => 4,
-        Element::Register(_) => 6,
-        Element::Async(_) => 5,
-        Element::Clocked(_, _) => 7,
-        Element::Gate(op) => gate_length(op_index(op)) as u16,
-    }
+    let after_size = put_start(out, at, 3, size);
+    let after_kind = put_byte(out, after_size, kind);
+    put_byte(out, after_kind, width)
 }
 
-// A gate's operation.
-fn put_op(out: &mut [u8], at: usize, e: Element) -> usize
-    requires { ⌜ at + length (beforeSources e) ≤ length (now out) ⌝ }
-    ensures { λ r. ⌜ Puts (now (out .entry)) at (beforeSources e) r (now (out .exit)) ⌝ }
+// What the field of an element with one source begins with, unless it is a gate: the same, and then the source.
+fn put_sourced(out: &mut [u8], at: usize, size: u16, kind: u8, width: u8, source: u16) -> usize
+    requires { ⌜ at + 7 ≤ length (now out) ⌝ }
+    ensures { λ r. ⌜ Puts (now (out .entry)) at (3 ∷ bytes size ++ kind ∷ width ∷ bytes source) r (now (out .exit)) ⌝ }
 {
-    match e {
-        Element::Gate(op) => put_byte(out, at, op_number(op)),
-        _ => at,
-    }
+    let after_width = put_front(out, at, size, kind, width);
+    put_word(out, after_width, source)
 }
 
-// What stands before the sources: kind, width, operation.
-fn put_front(out: &mut [u8], at: usize, e: Element, width: u8) -> usize
-    requires { ⌜ at + length (kindOf e ∷ width ∷ beforeSources e) ≤ length (now out) ⌝ }
-    ensures { λ r. ⌜ Puts (now (out .entry)) at (kindOf e ∷ width ∷ beforeSources e) r (now (out .exit)) ⌝ }
+// What the field of a gate begins with: the same, and then the number of its operation.
+fn put_operation(out: &mut [u8], at: usize, size: u16, width: u8, number: u8) -> usize
+    requires { ⌜ at + 6 ≤ length (now out) ⌝ }
+    ensures { λ r. ⌜ Puts (now (out .entry)) at (3 ∷ bytes size ++ 5 ∷ width ∷ number ∷ []) r (now (out .exit)) ⌝ }
 {
-    let after_kind = put_byte(out, at, kind_of(e));
-    let after_width = put_byte(out, after_kind, width);
-    put_op(out, after_width, e)
+    let after_width = put_front(out, at, size, 5, width);
+    put_byte(out, after_width, number)
 }
 
 // The first n sources.
@@ -163,54 +142,55 @@ fn put_sources(out: &mut [u8], at: usize, sources: &[u16], n: usize) -> usize
     next
 }
 
-// A constant's value, or a part's lowest bit.
-fn put_extra(out: &mut [u8], at: usize, op: Op) -> usize
-    requires { ⌜ at + length (opExtra op) ≤ length (now out) ⌝ }
-    ensures { λ r. ⌜ Puts (now (out .entry)) at (opExtra op) r (now (out .exit)) ⌝ }
+// The field of a gate: after its operation a constant has its word, a part its source and its lowest bit, any other its sources only.
+fn put_gate(out: &mut [u8], at: usize, op: Op, width: u8, sources: Sources) -> usize
+    requires { ⌜ at + length (nodeBytes (gate op width sources)) ≤ length (now out) ⌝ }
+    ensures { λ r. ⌜ Puts (now (out .entry)) at (nodeBytes (gate op width sources)) r (now (out .exit)) ⌝ }
 {
     match op {
-        Op::Constant(value) => put_word(out, at, value),
-        Op::Part(lowest) => put_byte(out, at, lowest),
-        _ => at,
-    }
-}
-
-// What follows the sources: a table's number, a reset word, what an operation holds.
-fn put_rest(out: &mut [u8], at: usize, e: Element) -> usize
-    requires { ⌜ at + length (afterSources e) ≤ length (now out) ⌝ }
-    ensures { λ r. ⌜ Puts (now (out .entry)) at (afterSources e) r (now (out .exit)) ⌝ }
-{
-    match e {
-        Element::Register(reset) => put_word(out, at, reset),
-        Element::Async(m) => put_byte(out, at, m.table),
-        Element::Clocked(m, reset) => {
-            let next = put_byte(out, at, m.table);
-            put_word(out, next, reset)
+        Op::Constant(value) => {
+            let after_op = put_operation(out, at, 5, width, 0);
+            put_word(out, after_op, value)
         }
-        Element::Gate(op) => put_extra(out, at, op),
-        _ => at,
+        Op::Part(lowest) => {
+            let after_op = put_operation(out, at, 6, width, 10);
+            let after_source = put_word(out, after_op, sources[0]);
+            put_byte(out, after_source, lowest)
+        }
+        _ => {
+            let n = op_sources(op);
+            let after_op = put_operation(out, at, (3 + 2 * n) as u16, width, op_number(op));
+            put_sources(out, after_op, &sources, n)
+        }
     }
 }
 
-// The content of a node.
-fn put_content(out: &mut [u8], at: usize, node: Node) -> usize
-    requires { ⌜ at + length (nodeContent node) ≤ length (now out) ⌝ }
-    ensures { λ r. ⌜ Puts (now (out .entry)) at (nodeContent node) r (now (out .exit)) ⌝ }
-{
-    let e = node.element;
-    let sources = node.sources;
-    let width = node.width;
-    let after_front = put_front(out, at, e, width);
-    let after_sources = put_sources(out, after_front, &sources, source_count(e));
-    put_rest(out, after_sources, e)
-}
-
-// The field of a node.
+// The field of a node. It branches by the element once, since such a branch is seldom foreseen: an arm knows the length of the content, the
+// kind, and what follows the width. An element that is no gate has one source at most.
 pub fn put_node(out: &mut [u8], at: usize, node: Node) -> usize
     requires { ⌜ at + length (nodeBytes node) ≤ length (now out) ⌝ }
     ensures { λ r. ⌜ Puts (now (out .entry)) at (nodeBytes node) r (now (out .exit)) ⌝ }
 {
     let e = node.element;
-    let next = put_start(out, at, 3, content_length(e));
-    put_content(out, next, node)
+    let width = node.width;
+    let sources = node.sources;
+    let first = sources[0];
+    match e {
+        Element::Input => put_front(out, at, 2, 0, width),
+        Element::Output => put_sourced(out, at, 4, 1, width, first),
+        Element::Register(reset) => {
+            let after_source = put_sourced(out, at, 6, 2, width, first);
+            put_word(out, after_source, reset)
+        }
+        Element::Async(m) => {
+            let after_source = put_sourced(out, at, 5, 3, width, first);
+            put_byte(out, after_source, m.table)
+        }
+        Element::Clocked(m, reset) => {
+            let after_source = put_sourced(out, at, 7, 4, width, first);
+            let after_table = put_byte(out, after_source, m.table);
+            put_word(out, after_table, reset)
+        }
+        Element::Gate(op) => put_gate(out, at, op, width, sources),
+    }
 }

@@ -1,4 +1,4 @@
--- The length is counted first.
+-- The length is counted first; the answer is the last offset.
 use mathlib.Core.Path.{ap, _∙_}
 use native.Mathlib.Omega.{arith}
 use Rattle.netlist.specs.File.{encode}
@@ -27,8 +27,9 @@ returns-2 : tie.Need-returns-2
 returns-2 c =
     let a = c .before .before .before .before .before .before .before .before .before .args in
     let n = c .before .before .before .before .before .circuit-length .ensures in
+    let w = c .before .before .write-circuit .ensures in
     let r = rewrote (long-enough (encode (netOf (a .file .now) (a .net .now))) (a .out .now) (omega (arith, c .before .before .before .before .if1 .left, n))) in
-    (ap Accepted n ∙ r .0, c .before .before .write-circuit .ensures .1 ∙ r .1)
+    (ap Accepted (w .0) ∙ r .0, w .1 ∙ r .1)
 
 pub write-fitting-spec : {M : Type 1} → statement M
 write-fitting-spec =

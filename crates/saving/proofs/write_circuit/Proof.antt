@@ -1,60 +1,61 @@
--- Part after part, each with room where the whole has.
+-- The loop's invariant: the first k fields stand at the front, and the offset behind them is carried.
+use mathlib.Core.Path.{refl}
+use mathlib.Core.List.{[]}
+use Prim.Native.Nat.{_-_}
 use native.Mathlib.Omega.{arith}
 use Rattle.circuit.specs.Circuit.{netOf}
-use Rattle.saving.specs.Encoded.{encode-length, encode-written}
+use Rattle.saving.specs.Firsts.{writing-more}
+use Rattle.saving.specs.Encoded.{Carrying, carrying-none, carried, file-written}
 use borrow.Author.Needs.{needs}
 use Rattle.saving.proofs.write_circuit.Statement.{statement}
 use Rattle.saving.proofs.write_circuit.Tie as tie
 
-put-head-requires : tie.Need-put-head-requires
-put-head-requires c κs =
-    let a = c .before .before .before .before .args in
-    let p = c .before .before .before .before .pre in
-    let size = encode-length (netOf (a .file .now) (a .net .now)) in
-    omega (arith, size, p .1)
+abbrev Inv-loop : tie.InvT-loop
+Inv-loop file net out₀ fields at₀ k₀ out at k = Carrying (netOf file net) out₀ k at out
 
-put-tables-requires : tie.Need-put-tables-requires
-put-tables-requires c κs =
-    let a = c .before .before .before .before .before .before .before .before .args in
-    let p = c .before .before .before .before .before .before .before .before .pre in
-    let size = encode-length (netOf (a .file .now) (a .net .now)) in
-    let head = c .before .before .before .put-head in
-    (p .0, omega (arith, size, p .1, head .kept .0, head .ensures .offset))
+abbrev μ-loop : tie.MeasureT-loop
+μ-loop file net out₀ fields at₀ k₀ out at k = fields - k
 
-put-nodes-requires : tie.Need-put-nodes-requires
-put-nodes-requires c κs =
-    let a = c .before .before .before .before .before .before .before .before .before .before .before .before .args in
-    let p = c .before .before .before .before .before .before .before .before .before .before .before .before .pre in
-    let size = encode-length (netOf (a .file .now) (a .net .now)) in
-    let head = c .before .before .before .before .before .before .before .put-head in
-    let tables = c .before .before .before .put-tables in
-    (p .0, omega (arith, size, p .1, head .kept .0, head .ensures .offset, tables .kept .1 .1 .0, tables .ensures .offset))
+field-count-requires : tie.Need-field-count-requires Inv-loop μ-loop
+field-count-requires c κs = search needs
 
-put-end-requires : tie.Need-put-end-requires
-put-end-requires c κs =
-    let a = c .before .before .before .before .before .before .before .before .before .before .before .before .before .before .before .before .args in
-    let p = c .before .before .before .before .before .before .before .before .before .before .before .before .before .before .before .before .pre in
-    let size = encode-length (netOf (a .file .now) (a .net .now)) in
-    let head = c .before .before .before .before .before .before .before .before .before .before .before .put-head in
-    let tables = c .before .before .before .before .before .before .before .put-tables in
-    let nodes = c .before .before .before .put-nodes in
-    omega (arith, size, p .1, head .kept .0, head .ensures .offset, tables .kept .1 .1 .0, tables .ensures .offset, nodes .kept .1 .1 .0, nodes .ensures .offset)
+loop-holds : tie.Need-loop-holds Inv-loop μ-loop
+loop-holds c = let a = c .before .before .before .before .args in carrying-none (netOf (a .file .now) (a .net .now)) (c .before .before .before .before .pre .1)
 
-same-length : tie.Need-same-length
-same-length c = search needs
+put-field-requires : tie.Need-put-field-requires Inv-loop μ-loop
+put-field-requires c κs =
+    let a = c .before .before .before .before .before .before .before .args in
+    let p = c .before .before .before .before .before .before .before .pre in
+    let t = c .before .before .loop .inv in
+    (p .0, (omega (arith, c .before .loop-test .taken, c .before .before .before .field-count .ensures .0), carried (netOf (a .file .now) (a .net .now)) t, omega (arith, p .1, t .kept)))
 
-returns : tie.Need-returns
-returns c =
-    let a = c .before .before .before .before .before .before .before .before .before .before .before .before .before .before .before .before .before .before .before .args in
-    encode-written (netOf (a .file .now) (a .net .now)) (c .before .before .before .before .before .before .before .before .before .before .before .before .before .before .put-head .ensures) (c .before .before .before .before .before .before .before .before .before .before .put-tables .ensures) (c .before .before .before .before .before .before .put-nodes .ensures) (c .before .before .put-end .ensures)
+add-k : tie.Need-add-k Inv-loop μ-loop
+add-k c = search needs
+
+loop-less : tie.Need-loop-less Inv-loop μ-loop
+loop-less c = search needs
+
+loop-again : tie.Need-loop-again Inv-loop μ-loop
+loop-again c =
+    writing-more (c .before .before .before .before .before .loop .inv) [] (omega (arith, c .before .before .before .before .loop-test .taken, c .before .before .before .before .before .before .field-count .ensures .0)) refl (c .before .before .put-field .kept .1 .1 .1 .0) (c .before .before .put-field .ensures .0)
+
+same-length : tie.Need-same-length Inv-loop μ-loop
+same-length c = c .before .loop .inv .kept
+
+returns : tie.Need-returns Inv-loop μ-loop
+returns c = let a = c .before .before .before .before .before .before .args in file-written (netOf (a .file .now) (a .net .now)) (c .before .loop .inv) (omega (arith, c .loop-test .left, c .before .before .field-count .ensures .0))
 
 pub write-circuit-spec : {M : Type 1} → statement M
 write-circuit-spec =
     tie.close
     (tie.spec
-    put-head-requires
-    put-tables-requires
-    put-nodes-requires
-    put-end-requires
+    Inv-loop
+    μ-loop
+    field-count-requires
+    loop-holds
+    put-field-requires
+    add-k
+    loop-less
+    loop-again
     same-length
     returns)
