@@ -1,5 +1,7 @@
-// Total reads and writes of work areas: past the end there is 0, and nothing is written. And a work area filled anew, or with the words of another.
+// Reads and writes of work areas: total ones, where past the end there is 0 and nothing is written; and those of a place that is known to be there,
+// which test nothing. And a work area filled anew, or with the words of another.
 ghost use mathlib.Core.Path.{_≡_};
+ghost use Prim.Native.Nat.{_<_};
 ghost use lib.ListN.{length, getD, set, replicate};
 
 pub fn flag_at(flags: &[u8], i: usize) -> u8
@@ -28,6 +30,20 @@ pub fn put_number(numbers: &mut [u16], i: usize, x: u16)
     if i < numbers.len() {
         numbers[i] = x;
     }
+}
+
+pub fn read_at(numbers: &[u16], i: usize) -> u16
+    requires { ⌜ i < length (now numbers) ⌝ }
+    ensures { λ r. ⌜ r ≡ getD (now (numbers .entry)) i 0 ⌝ }
+{
+    numbers[i]
+}
+
+pub fn write_at(numbers: &mut [u16], i: usize, x: u16)
+    requires { ⌜ i < length (now numbers) ⌝ }
+    ensures { λ _. ⌜ now (numbers .exit) ≡ set (now (numbers .entry)) i x ⌝ }
+{
+    numbers[i] = x;
 }
 
 pub fn fill(numbers: &mut [u16], each: u16)

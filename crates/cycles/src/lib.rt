@@ -2,8 +2,8 @@
 pub mod rings;
 
 use areas::flag_at;
-use areas::number_at;
 use areas::put_flag;
+use areas::read_at;
 use circuit::node_count;
 use circuit::source_of;
 use circuit::wide;
@@ -14,6 +14,7 @@ use proposal::AREA;
 use proposal::propose;
 ghost use mathlib.Core.Path.{_≡_};
 ghost use Prim.Native.Nat.{_<_, _≤_};
+ghost use lib.ListN.{length};
 ghost use Rattle.lists.specs.Lists.{lowest};
 ghost use Rattle.netlist.specs.Net.{Net, size, inClock, Sourced};
 ghost use Rattle.netlist.specs.Reach.{reachesItself};
@@ -116,14 +117,14 @@ fn spread_by(
     start: usize,
 ) -> usize
     ghost { Net }
-    requires { λ N. opened 𝓤 (now file) (now net) N (Sourced N × Reached (classOf steps) N s (now marks) start) }
+    requires { λ N. opened 𝓤 (now file) (now net) N (Sourced N × Reached (classOf steps) N s (now marks) start × (1024 ≤ length (now hint))) }
     ensures { λ N r. ⌜ (start ≤ r) × Reached (classOf steps) N s (now (marks .exit)) r ⌝ }
 {
     let n = node_count(file, net);
     let mut k = start;
     let mut i: usize = 0;
     while i < n {
-        k = touch_if(file, net, steps, s, wide(number_at(hint, i)), marks, k);
+        k = touch_if(file, net, steps, s, wide(read_at(hint, i)), marks, k);
         i = i + 1;
     }
     k
@@ -132,7 +133,7 @@ fn spread_by(
 // The search: from each node in turn rounds spread its mark until it comes back, which ends the search, or a round over all nodes changes nothing.
 fn lowest_on_cycle(file: &[u8], net: &[u16], steps: Steps, hint: &[u16]) -> usize
     ghost { Net }
-    requires { λ N. opened 𝓤 (now file) (now net) N (Sourced N) }
+    requires { λ N. opened 𝓤 (now file) (now net) N (Sourced N × (1024 ≤ length (now hint))) }
     ensures { λ N r. ⌜ r ≡ lowest (size N) (reachesItself (classOf steps) N) ⌝ }
 {
     let n = node_count(file, net);

@@ -2,6 +2,8 @@
 use super::lowest_on_cycle;
 use areas::number_at;
 use areas::put_number;
+use areas::read_at;
+use areas::write_at;
 use circuit::node_count;
 use circuit::register;
 use circuit::source_of;
@@ -12,11 +14,11 @@ use proposal::propose;
 ghost use mathlib.Core.Path.{_≡_};
 ghost use mathlib.Core.Bool.{true};
 ghost use Prim.Native.Nat.{_≤_, _<_};
-ghost use lib.ListN.{getD};
+ghost use lib.ListN.{length, getD};
 ghost use Rattle.lists.specs.Lists.{lowest};
 ghost use Rattle.netlist.specs.Net.{Net, size, inRegisters, Sourced, RankedIn};
 ghost use Rattle.netlist.specs.Reach.{reachesItself};
-ghost use Rattle.circuit.specs.Circuit.{netOf, Circuit};
+ghost use Rattle.circuit.specs.Circuit.{Circuit};
 ghost use Rattle.circuit.specs.Opened.{opened};
 ghost use Rattle.cycles.specs.Falls.{Falls};
 
@@ -91,13 +93,13 @@ fn rank_chain(file: &[u8], net: &[u16], start: usize, chain: Chain, ranks: &mut 
 
 // Ranks register v, where it has no rank from a chain before, and the registers back from it.
 fn rank_register(file: &[u8], net: &[u16], v: usize, ranks: &mut [u16])
-    requires { ⌜ Circuit (now file) (now net) ⌝ }
+    requires { ⌜ Circuit (now file) (now net) × (v < length (now ranks)) ⌝ }
 {
     if register_at(file, net, source_at(file, net, v)) == 0 {
-        put_number(ranks, v, 1);
+        write_at(ranks, v, 1);
         return;
     }
-    if number_at(ranks, v) == 0 {
+    if read_at(ranks, v) == 0 {
         let chain = mark_chain(file, net, v, ranks);
         rank_chain(file, net, v, chain, ranks);
     }
@@ -105,7 +107,7 @@ fn rank_register(file: &[u8], net: &[u16], v: usize, ranks: &mut [u16])
 
 // Ranks all registers.
 fn rank_registers(file: &[u8], net: &[u16], ranks: &mut [u16])
-    requires { ⌜ Circuit (now file) (now net) ⌝ }
+    requires { ⌜ Circuit (now file) (now net) × (length (now ranks) ≡ 1024) ⌝ }
 {
     let n = node_count(file, net);
     let mut v: usize = 0;
@@ -120,11 +122,11 @@ fn rank_registers(file: &[u8], net: &[u16], ranks: &mut [u16])
 // Whether v is no register, or has a higher rank than what it reads.
 fn falls(file: &[u8], net: &[u16], v: usize, ranks: &[u16]) -> bool
     ghost { Net }
-    requires { λ N. opened 𝓤 (now file) (now net) N (v < size N) }
+    requires { λ N. opened 𝓤 (now file) (now net) N (Sourced N × (v < size N) × (length (now ranks) ≡ 1024)) }
     ensures { λ N r. ⌜ (r ≡ true → Falls N (λ u. getD (now (ranks .entry)) u 0) v) ⌝ }
 {
     if register(file, net, v) == 1 {
-        number_at(ranks, source_of(file, net, v, 0)) < number_at(ranks, v)
+        read_at(ranks, source_of(file, net, v, 0)) < read_at(ranks, v)
     } else {
         true
     }
@@ -133,7 +135,7 @@ fn falls(file: &[u8], net: &[u16], v: usize, ranks: &[u16]) -> bool
 // Whether each register has a higher rank than what it reads.
 fn ranked(file: &[u8], net: &[u16], ranks: &[u16]) -> bool
     ghost { Net }
-    requires { λ N. ⌜ netOf (now file) (now net) ≡ N ⌝ ∗ ⌜ Circuit (now file) (now net) ⌝ }
+    requires { λ N. opened 𝓤 (now file) (now net) N (Sourced N × (length (now ranks) ≡ 1024)) }
     ensures { λ N r. ⌜ (r ≡ true → RankedIn inRegisters N (λ v. getD (now (ranks .entry)) v 0)) ⌝ }
 {
     let n = node_count(file, net);

@@ -3,7 +3,7 @@ pub mod largest;
 mod worklist;
 
 use areas::fill;
-use areas::number_at;
+use areas::read_at;
 use circuit::async_rom;
 use circuit::count_kind;
 use circuit::input;
@@ -54,7 +54,7 @@ fn relax(file: &[u8], net: &[u16], bound: usize, x: usize, leads: &mut [u16]) ->
     requires { λ N. opened 𝓤 (now file) (now net) N (Sourced N × (bound ≡ romCount N) × (x < size N) × Walked N (now leads)) }
     ensures { λ N r. ⌜ (r ≤ 3) × Progress N (now (leads .entry)) (now (leads .exit)) r (Content N x) ⌝ }
 {
-    let own = wide(number_at(leads, x));
+    let own = wide(read_at(leads, x));
     if bound < own {
         return 0;
     }
@@ -90,11 +90,12 @@ fn pass(file: &[u8], net: &[u16], bound: usize, leads: &mut [u16]) -> usize
 
 // Whether one of the first n leads is over the bound.
 fn over_bound(leads: &[u16], n: usize, bound: usize) -> bool
+    requires { ⌜ n ≤ length (now leads) ⌝ }
     ensures { λ r. ⌜ r ≡ anyBelow n (λ v. ltb bound (getD (now (leads .entry)) v 0)) ⌝ }
 {
     let mut v: usize = 0;
     while v < n {
-        if bound < wide(number_at(leads, v)) {
+        if bound < wide(read_at(leads, v)) {
             return true;
         }
         v = v + 1;
@@ -124,11 +125,11 @@ fn settle(file: &[u8], net: &[u16], bound: usize, leads: &mut [u16]) -> bool
 // Whether v is an input port with a positive lead.
 fn owes(file: &[u8], net: &[u16], leads: &[u16], v: usize) -> bool
     ghost { Net }
-    requires { λ N. opened 𝓤 (now file) (now net) N ((v < size N) × LeadsIn N (now leads)) }
+    requires { λ N. opened 𝓤 (now file) (now net) N ((v < size N) × LeadsIn N (now leads) × (1024 ≤ length (now leads))) }
     ensures { λ N r. ⌜ r ≡ owingPort N v ⌝ }
 {
     if input(file, net, v) == 1 {
-        0 < wide(number_at(leads, v))
+        0 < wide(read_at(leads, v))
     } else {
         false
     }
@@ -137,7 +138,7 @@ fn owes(file: &[u8], net: &[u16], leads: &[u16], v: usize) -> bool
 // The lowest input port with a positive lead, or the number of nodes.
 fn lowest_owing(file: &[u8], net: &[u16], leads: &[u16]) -> usize
     ghost { Net }
-    requires { λ N. opened 𝓤 (now file) (now net) N (LeadsIn N (now leads)) }
+    requires { λ N. opened 𝓤 (now file) (now net) N (LeadsIn N (now leads) × (1024 ≤ length (now leads))) }
     ensures { λ N r. ⌜ r ≡ lowest (size N) (owingPort N) ⌝ }
 {
     let n = node_count(file, net);

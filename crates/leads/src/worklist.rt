@@ -2,6 +2,8 @@
 use super::relax;
 use areas::number_at;
 use areas::put_number;
+use areas::read_at;
+use areas::write_at;
 use circuit::node_count;
 use circuit::order_of;
 use circuit::source_count;
@@ -9,6 +11,7 @@ use circuit::source_of;
 use circuit::wide;
 ghost use mathlib.Core.Path.{_≡_};
 ghost use Prim.Native.Nat.{_+_, _≤_, _<_};
+ghost use lib.ListN.{length};
 ghost use Rattle.netlist.specs.Net.{Net, size, Sourced};
 ghost use Rattle.circuit.specs.Circuit.{Circuit};
 ghost use Rattle.circuit.specs.Opened.{opened};
@@ -20,13 +23,13 @@ const WAITING: usize = 1024;
 
 // Puts a node on the stack, unless it waits there.
 fn push(work: &mut [u16], u: usize, depth: usize) -> usize
-    requires { ⌜ u ≤ 65535 ⌝ }
+    requires { ⌜ (u ≤ 65535) × (length (now work) ≡ 2048) ⌝ }
     ensures { λ r. ⌜ r ≤ depth + 1 ⌝ }
 {
     if number_at(work, WAITING + u) == 0 {
         if depth < WAITING {
             put_number(work, WAITING + u, 1);
-            put_number(work, depth, u as u16);
+            write_at(work, depth, u as u16);
             return depth + 1;
         }
     }
@@ -36,7 +39,7 @@ fn push(work: &mut [u16], u: usize, depth: usize) -> usize
 // Puts what node x reads on the stack.
 fn push_sources(file: &[u8], net: &[u16], x: usize, work: &mut [u16], start: usize) -> usize
     ghost { Net }
-    requires { λ N. opened 𝓤 (now file) (now net) N (x < size N) }
+    requires { λ N. opened 𝓤 (now file) (now net) N ((x < size N) × (length (now work) ≡ 2048)) }
     ensures { λ _ r. ⌜ r ≤ start + 3 ⌝ }
 {
     let n = source_count(file, net, x);
@@ -51,7 +54,7 @@ fn push_sources(file: &[u8], net: &[u16], x: usize, work: &mut [u16], start: usi
 
 // The nodes in order, the last on top, so that readers come before what they read.
 fn push_order(file: &[u8], net: &[u16], work: &mut [u16]) -> usize
-    requires { ⌜ Circuit (now file) (now net) ⌝ }
+    requires { ⌜ Circuit (now file) (now net) × (length (now work) ≡ 2048) ⌝ }
 {
     let n = node_count(file, net);
     let mut depth: usize = 0;
@@ -79,10 +82,10 @@ pub fn spread(file: &[u8], net: &[u16], bound: usize, leads: &mut [u16])
         if n <= x {
             continue;
         }
-        if bound < wide(number_at(leads, x)) {
+        if bound < wide(read_at(leads, x)) {
             return;
         }
-        put_number(&mut work, WAITING + x, 0);
+        write_at(&mut work, WAITING + x, 0);
         if relax(file, net, bound, x, leads) == 0 {
             continue;
         }

@@ -42,6 +42,10 @@ passes-nothing (Gate o) h = absurd (h refl)
 pub flag-read : {v w r : ℕ} (area : List ℕ) → length area ≡ 4096 → w ≡ v → r ≡ getD area (3072 + w) 0 → r ≡ getD (flagsIn area) v 0
 flag-read {v} area h e d = d ∙ ap (λ (k : ℕ). getD area (3072 + k) 0) e ∙ sym (last-read 3072 1024 area (omega arith) v)
 
+-- place i of the order is read
+pub order-read : {i r : ℕ} (area : List ℕ) → i < 1024 → r ≡ getD area i 0 → r ≡ getD (orderIn area) i 0
+order-read {i} area l d = let e : i ≡ 0 + i = omega arith in d ∙ ap (λ (j : ℕ). getD area j 0) e ∙ sym (section-read 0 1024 area i l)
+
 -- place k of the order is put, then flag v
 module _ (area node exit : List ℕ) (k v : ℕ) (h : length area ≡ 4096) (l : k < 1024) (p : node ≡ set area k v) (q : exit ≡ set node (3072 + v) 1) where
   order-put : orderIn exit ≡ set (orderIn area) k v

@@ -2,7 +2,8 @@
 // A node is placed where all that it reads is placed; else it waits for a source that is missing.
 
 use areas::number_at;
-use areas::put_number;
+use areas::read_at;
+use areas::write_at;
 use circuit::clocked_rom;
 use circuit::node_count;
 use circuit::put_order;
@@ -65,7 +66,7 @@ fn missing(file: &[u8], net: &[u16], area: &[u16], v: usize) -> usize
     let mut p: usize = 0;
     while p < n {
         let u = source_of(file, net, v, p);
-        if number_at(area, FLAGS + u) == 0 {
+        if read_at(area, FLAGS + u) == 0 {
             return u;
         }
         p = p + 1;
@@ -81,8 +82,8 @@ fn wait(v: usize, u: usize, area: &mut [u16])
     if 1023 < u {
         return;
     }
-    put_number(area, NEXTS + v, number_at(area, HEADS + u));
-    put_number(area, HEADS + u, (v + 1) as u16);
+    write_at(area, NEXTS + v, read_at(area, HEADS + u));
+    write_at(area, HEADS + u, (v + 1) as u16);
 }
 
 // Places node v next where it is ready and not placed yet, or lets it wait; gives the number of nodes placed.
@@ -91,7 +92,7 @@ fn place(file: &[u8], net: &[u16], v: usize, k: usize, area: &mut [u16]) -> usiz
     requires { λ N. opened 𝓤 (now file) (now net) N (Sourced N × (v < size N) × (length (now area) ≡ 4096) × Placed inClock N (flagsIn (now area)) (orderIn (now area)) k) }
     ensures { λ N r. ⌜ PlacedOnce inClock N (flagsIn (now (area .entry))) (flagsIn (now (area .exit))) (orderIn (now (area .exit))) k r v ⌝ }
 {
-    if 0 < number_at(area, FLAGS + v) {
+    if 0 < read_at(area, FLAGS + v) {
         return k;
     }
     let u = missing(file, net, area, v);
@@ -99,8 +100,8 @@ fn place(file: &[u8], net: &[u16], v: usize, k: usize, area: &mut [u16]) -> usiz
         wait(v, u, area);
         return k;
     }
-    put_number(area, k, v as u16);
-    put_number(area, FLAGS + v, 1);
+    write_at(area, k, v as u16);
+    write_at(area, FLAGS + v, 1);
     k + 1
 }
 
@@ -120,10 +121,10 @@ fn place_if(file: &[u8], net: &[u16], v: usize, k: usize, area: &mut [u16]) -> u
 // Tries the nodes that wait for node v.
 fn wake(file: &[u8], net: &[u16], v: usize, start: usize, area: &mut [u16]) -> usize
     ghost { Net }
-    requires { λ N. opened 𝓤 (now file) (now net) N (Sourced N × (v ≤ 65535) × (length (now area) ≡ 4096) × Placed inClock N (flagsIn (now area)) (orderIn (now area)) start) }
+    requires { λ N. opened 𝓤 (now file) (now net) N (Sourced N × (v < 1024) × (length (now area) ≡ 4096) × Placed inClock N (flagsIn (now area)) (orderIn (now area)) start) }
     ensures { λ N r. ⌜ Placed inClock N (flagsIn (now (area .exit))) (orderIn (now (area .exit))) r ⌝ }
 {
-    let mut w = wide(number_at(area, HEADS + v));
+    let mut w = wide(read_at(area, HEADS + v));
     let mut k = start;
     let mut i: usize = 0;
     while i < 1024 {
@@ -151,7 +152,7 @@ fn wake_all(file: &[u8], net: &[u16], start: usize, area: &mut [u16]) -> usize
         if k <= i {
             return k;
         }
-        k = wake(file, net, wide(number_at(area, i)), k, area);
+        k = wake(file, net, wide(read_at(area, i)), k, area);
         i = i + 1;
     }
     k
@@ -194,14 +195,14 @@ fn settle(file: &[u8], net: &[u16], start: usize, area: &mut [u16]) -> usize
 // Keeps the order in the circuit.
 fn keep_order(file: &[u8], net: &mut [u16], area: &[u16])
     ghost { Net }
-    requires { λ N. ⌜ netOf (now file) (now net) ≡ N ⌝ ∗ ⌜ Circuit (now file) (now net) ⌝ }
+    requires { λ N. opened 𝓤 (now file) (now net) N (length (now area) ≡ 4096) }
     ensures { λ N _. ⌜ (netOf (now (file .entry)) (now (net .exit)) ≡ N) × Circuit (now (file .entry)) (now (net .exit))
         × ((i : ℕ) → i < size N → getD (orderOf (now (net .exit))) i 0 ≡ getD (now (area .entry)) i 0) ⌝ }
 {
     let n = node_count(file, net);
     let mut i: usize = 0;
     while i < n {
-        put_order(file, net, i, number_at(area, i));
+        put_order(file, net, i, read_at(area, i));
         i = i + 1;
     }
 }

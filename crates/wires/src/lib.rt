@@ -1,6 +1,6 @@
 // The wires of an opened netlist: for every node the root where its wire begins, and the registers passed on the way back to it.
-use areas::number_at;
-use areas::put_number;
+use areas::read_at;
+use areas::write_at;
 use circuit::node_count;
 use circuit::register;
 use circuit::source_of;
@@ -35,8 +35,8 @@ fn put_wire(timing: &mut [u16], v: usize, root: u16, through: u16)
     ensures { λ _. ⌜ Written (rootsIn (now (timing .entry))) (passesIn (now (timing .entry))) (rootsIn (now (timing .exit))) (passesIn (now (timing .exit))) v root through
         × (take 1024 (now (timing .exit)) ≡ take 1024 (now (timing .entry))) ⌝ }
 {
-    put_number(timing, ROOTS + v, root);
-    put_number(timing, PASSES + v, through);
+    write_at(timing, ROOTS + v, root);
+    write_at(timing, PASSES + v, through);
 }
 
 // Every node is its own root with no register passed, but the registers wait. Without a branch.
@@ -58,18 +58,19 @@ fn mark_all(file: &[u8], net: &[u16], timing: &mut [u16])
 // The wire of node v: back through the registers that wait, up to a node that is traced.
 fn wire_of(file: &[u8], net: &[u16], v: usize, timing: &[u16]) -> Wire
     ghost { Net }
-    requires { λ N. opened 𝓤 (now file) (now net) N (Sourced N × Ringless N × (v < size N) × HalfTraced N (rootsIn (now timing)) (passesIn (now timing)) (size N)) }
+    requires { λ N. opened 𝓤 (now file) (now net) N (Sourced N × Ringless N × (v < size N) × HalfTraced N (rootsIn (now timing)) (passesIn (now timing)) (size N)
+        × (length (now timing) ≡ 3072)) }
     ensures { λ N r. ⌜ (r .root ≡ root N v) × (r .through ≡ passed N v) ⌝ }
 {
     let mut u = v;
     let mut count: u16 = 0;
-    while number_at(timing, PASSES + u) == WAITS {
+    while read_at(timing, PASSES + u) == WAITS {
         u = source_of(file, net, u, 0);
         count = count + 1;
     }
     Wire {
-        root: number_at(timing, ROOTS + u),
-        through: count + number_at(timing, PASSES + u),
+        root: read_at(timing, ROOTS + u),
+        through: count + read_at(timing, PASSES + u),
     }
 }
 
@@ -85,7 +86,7 @@ fn set_back(file: &[u8], net: &[u16], v: usize, wire: Wire, timing: &mut [u16])
     let from = wire.root;
     let mut left = wire.through;
     let mut u = v;
-    while number_at(timing, PASSES + u) == WAITS {
+    while read_at(timing, PASSES + u) == WAITS {
         put_wire(timing, u, from, left);
         u = source_of(file, net, u, 0);
         left = left - 1;
@@ -101,7 +102,7 @@ fn trace(file: &[u8], net: &[u16], v: usize, timing: &mut [u16])
         × MoreTraced N (rootsIn (now (timing .entry))) (passesIn (now (timing .entry))) (rootsIn (now (timing .exit))) (passesIn (now (timing .exit))) v
         × (take 1024 (now (timing .exit)) ≡ take 1024 (now (timing .entry))) ⌝ }
 {
-    if number_at(timing, PASSES + v) == WAITS {
+    if read_at(timing, PASSES + v) == WAITS {
         let wire = wire_of(file, net, v, timing);
         set_back(file, net, v, wire, timing);
     }

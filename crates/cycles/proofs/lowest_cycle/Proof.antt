@@ -40,7 +40,7 @@ slice-aggregate-lowest-on-cycle c = search needs
 lowest-on-cycle-requires : tie.Need-lowest-on-cycle-requires
 lowest-on-cycle-requires c κs =
     let o = c .before .before .before .before .before .before .before .before .before .before .before .order-nodes .ensures in
-    (o .1, subst Sourced (sym (o .0)) (c .before .before .before .before .before .before .before .before .before .before .before .before .before .before .before .pre .1))
+    (o .1, (subst Sourced (sym (o .0)) (c .before .before .before .before .before .before .before .before .before .before .before .before .before .before .before .pre .1), search needs))
 
 same-length-2 : tie.Need-same-length-2
 same-length-2 c = search needs

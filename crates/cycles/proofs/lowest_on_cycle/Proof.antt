@@ -39,13 +39,13 @@ slice-aggregate-spread-by : tie.Need-slice-aggregate-spread-by Inv-loop μ-loop 
 slice-aggregate-spread-by c = sym (c .before .loop .inv .0)
 
 spread-by-requires : tie.Need-spread-by-requires Inv-loop μ-loop Inv-search μ-search
-spread-by-requires c κs = let p = c .before .before .before .before .before .before .before .before .pre in (p .0, (p .1, c .before .loop .inv .1))
+spread-by-requires c κs = let p = c .before .before .before .before .before .before .before .before .pre in (p .0, (p .1 .0, c .before .loop .inv .1, p .1 .1))
 
 slice-aggregate-spread : tie.Need-slice-aggregate-spread Inv-loop μ-loop Inv-search μ-search
 slice-aggregate-spread c = sym (c .before .before .spread-by .kept .1 .1 .1 .1 .1 .0 ∙ c .before .before .before .before .loop .inv .0)
 
 spread-requires : tie.Need-spread-requires Inv-loop μ-loop Inv-search μ-search
-spread-requires c κs = let p = c .before .before .before .before .before .before .before .before .before .before .before .pre in (p .0, (p .1, c .before .before .spread-by .ensures .1))
+spread-requires c κs = let p = c .before .before .before .before .before .before .before .before .before .before .before .pre in (p .0, (p .1 .0, c .before .before .spread-by .ensures .1))
 
 slice-aggregate-flag-at : tie.Need-slice-aggregate-flag-at Inv-loop μ-loop Inv-search μ-search
 slice-aggregate-flag-at c = sym (c .before .before .spread .kept .1 .1 .1 .1 .0 ∙ c .before .before .before .before .before .spread-by .kept .1 .1 .1 .1 .1 .0 ∙ c .before .before .before .before .before .before .before .loop .inv .0)
@@ -66,13 +66,13 @@ search-less : tie.Need-search-less Inv-loop μ-loop Inv-search μ-search
 search-less c = search needs
 
 search-again : tie.Need-search-again Inv-loop μ-loop Inv-search μ-search
-search-again c = let a = c .before .before .before .before .before .before .before .before .before .before .before .before .before .before .before .before .before .args in let p = c .before .before .before .before .before .before .before .before .before .before .before .before .before .before .before .before .before .pre in let N = netOf (a .file .now) (a .net .now) in let K = classOf (a .steps) in let k = c .before .before .before .before .before .before .before .before .before .before .before .before .search in let w = c .before .before .before .before .before .spread in let n = c .before .before .before .before .before .before .before .before .before .before .before .before .before .node-count .ensures .0 in let missed : getD (w .last .1 .1 .1 .1 .0) (k .s) 0 ≤ 0 = omega (arith, c .before .if1 .left, c .before .before .flag-at .ensures) in (omega (arith, c .before .before .before .before .before .before .before .before .before .before .before .search-test .taken), passed-more (reachesItself K N) (k .s) (k .inv .1) (round-missed K N (p .1) (w .ensures) (c .if2 .taken) (omega (arith, c .before .before .before .before .before .before .before .before .before .before .before .search-test .taken, n)) missed))
+search-again c = let a = c .before .before .before .before .before .before .before .before .before .before .before .before .before .before .before .before .before .args in let p = c .before .before .before .before .before .before .before .before .before .before .before .before .before .before .before .before .before .pre in let N = netOf (a .file .now) (a .net .now) in let K = classOf (a .steps) in let k = c .before .before .before .before .before .before .before .before .before .before .before .before .search in let w = c .before .before .before .before .before .spread in let n = c .before .before .before .before .before .before .before .before .before .before .before .before .before .node-count .ensures .0 in let missed : getD (w .last .1 .1 .1 .1 .0) (k .s) 0 ≤ 0 = omega (arith, c .before .if1 .left, c .before .before .flag-at .ensures) in (omega (arith, c .before .before .before .before .before .before .before .before .before .before .before .search-test .taken), passed-more (reachesItself K N) (k .s) (k .inv .1) (round-missed K N (p .1 .0) (w .ensures) (c .if2 .taken) (omega (arith, c .before .before .before .before .before .before .before .before .before .before .before .search-test .taken, n)) missed))
 
 returns : tie.Need-returns Inv-loop μ-loop Inv-search μ-search
 returns c = let a = c .before .before .before .before .before .before .args in let N = netOf (a .file .now) (a .net .now) in let k = c .before .search in let n = c .before .before .node-count .ensures .0 in let e : k .s ≡ size N = omega (arith, c .search-test .left, n, k .inv .0) in e ∙ lowest-past (size N) (reachesItself (classOf (a .steps)) N) (λ u h. k .inv .1 u (omega (arith, e)))
 
 returns-2 : tie.Need-returns-2 Inv-loop μ-loop Inv-search μ-search
-returns-2 c = let a = c .before .before .before .before .before .before .before .before .before .before .before .before .before .before .before .before .args in let p = c .before .before .before .before .before .before .before .before .before .before .before .before .before .before .before .before .pre in let N = netOf (a .file .now) (a .net .now) in let K = classOf (a .steps) in let k = c .before .before .before .before .before .before .before .before .before .before .before .search in let l : k .s < size N = omega (arith, c .before .before .before .before .before .before .before .before .before .before .search-test .taken, c .before .before .before .before .before .before .before .before .before .before .before .before .node-count .ensures .0) in let hit : 0 < getD (c .before .before .before .before .spread .last .1 .1 .1 .1 .0) (k .s) 0 = omega (arith, c .if1 .taken, c .before .flag-at .ensures) in lowest-here (size N) (reachesItself K N) (k .s) (k .inv .1) l (start-hit K N (p .1) (c .before .before .before .before .spread .ensures .holds) l hit)
+returns-2 c = let a = c .before .before .before .before .before .before .before .before .before .before .before .before .before .before .before .before .args in let p = c .before .before .before .before .before .before .before .before .before .before .before .before .before .before .before .before .pre in let N = netOf (a .file .now) (a .net .now) in let K = classOf (a .steps) in let k = c .before .before .before .before .before .before .before .before .before .before .before .search in let l : k .s < size N = omega (arith, c .before .before .before .before .before .before .before .before .before .before .search-test .taken, c .before .before .before .before .before .before .before .before .before .before .before .before .node-count .ensures .0) in let hit : 0 < getD (c .before .before .before .before .spread .last .1 .1 .1 .1 .0) (k .s) 0 = omega (arith, c .if1 .taken, c .before .flag-at .ensures) in lowest-here (size N) (reachesItself K N) (k .s) (k .inv .1) l (start-hit K N (p .1 .0) (c .before .before .before .before .spread .ensures .holds) l hit)
 
 pub lowest-on-cycle-spec : {M : Type 1} → statement M
 lowest-on-cycle-spec =

@@ -22,8 +22,8 @@ node-count-requires c κs = search needs
 loop-holds : tie.Need-loop-holds Inv-loop μ-loop
 loop-holds c = (refl, omega arith, c .before .before .before .before .before .pre .1 .1)
 
-number-at-requires : tie.Need-number-at-requires Inv-loop μ-loop
-number-at-requires c κs = search needs
+read-at-requires : tie.Need-read-at-requires Inv-loop μ-loop
+read-at-requires c κs = search needs
 
 wide-requires : tie.Need-wide-requires Inv-loop μ-loop
 wide-requires c κs = search needs
@@ -59,7 +59,7 @@ spread-by-spec =
     μ-loop
     node-count-requires
     loop-holds
-    number-at-requires
+    read-at-requires
     wide-requires
     touch-if-requires
     add-i

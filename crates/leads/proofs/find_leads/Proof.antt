@@ -28,7 +28,10 @@ settle-requires c κs =
     (p .0, (p .1 .0, c .before .before .before .before .before .before .before .before .before .count-roms .ensures, c .before .before .before .spread .ensures))
 
 lowest-owing-requires : tie.Need-lowest-owing-requires
-lowest-owing-requires c κs = (c .before .before .before .before .before .before .before .before .before .before .before .before .before .before .before .before .before .before .pre .0, when-settled _ (c .before .before .before .before .settle .ensures) (c .before .if1 .taken) .1)
+lowest-owing-requires c κs =
+    let p = c .before .before .before .before .before .before .before .before .before .before .before .before .before .before .before .before .before .before .pre in
+    let kept = c .before .before .before .before .settle .kept .1 .1 .1 .0 ∙ c .before .before .before .before .before .before .before .before .spread .kept .1 .1 .1 .0 ∙ c .before .before .before .before .before .before .before .before .before .before .before .before .fill .kept .0 in
+    (p .0, (when-settled _ (c .before .before .before .before .settle .ensures) (c .before .if1 .taken) .1, omega (arith, p .1 .1, kept)))
 
 node-count-requires : tie.Need-node-count-requires
 node-count-requires c κs = search needs

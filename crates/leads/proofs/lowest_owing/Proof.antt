@@ -25,7 +25,7 @@ loop-holds c = (λ v h. absurd (omega arith), omega arith)
 owes-requires : tie.Need-owes-requires Inv-loop μ-loop
 owes-requires c κs =
     let p = c .before .before .before .before .before .before .pre in
-    (p .0, (omega (arith, c .before .before .node-count .ensures .0, c .loop-test .taken), p .1))
+    (p .0, (omega (arith, c .before .before .node-count .ensures .0, c .loop-test .taken), p .1 .0, p .1 .1))
 
 returns : tie.Need-returns Inv-loop μ-loop
 returns c =

@@ -21,8 +21,8 @@ abbrev μ-loop : tie.MeasureT-loop
 loop-holds : tie.Need-loop-holds Inv-loop μ-loop
 loop-holds c = λ v h. absurd (omega arith)
 
-number-at-requires : tie.Need-number-at-requires Inv-loop μ-loop
-number-at-requires c κs = search needs
+read-at-requires : tie.Need-read-at-requires Inv-loop μ-loop
+read-at-requires c κs = search needs
 
 wide-requires : tie.Need-wide-requires Inv-loop μ-loop
 wide-requires c κs = search needs
@@ -31,7 +31,7 @@ returns : tie.Need-returns Inv-loop μ-loop
 returns c =
     let a = c .before .before .before .before .before .before .args in
     let o : ℕ → Bool = λ v. ltb (a .bound) (getD (a .leads .now) v 0) in
-    sym (anyBelow-intro (a .n) o (c .before .before .before .before .loop .v) (c .before .before .before .loop-test .taken) (lt-ltb (a .bound) _ (omega (arith, c .if1 .taken, c .before .wide .ensures .0, c .before .before .number-at .ensures))))
+    sym (anyBelow-intro (a .n) o (c .before .before .before .before .loop .v) (c .before .before .before .loop-test .taken) (lt-ltb (a .bound) _ (omega (arith, c .if1 .taken, c .before .wide .ensures .0, c .before .before .read-at .ensures))))
 
 add-v : tie.Need-add-v Inv-loop μ-loop
 add-v c = omega arith
@@ -43,7 +43,7 @@ loop-again : tie.Need-loop-again Inv-loop μ-loop
 loop-again c =
     let a = c .before .before .before .before .before .before .args in
     let o : ℕ → Bool = λ v. ltb (a .bound) (getD (a .leads .now) v 0) in
-    passed-more o (c .before .before .before .before .loop .v) (c .before .before .before .before .loop .inv) (le-ltb (a .bound) _ (omega (arith, c .if1 .left, c .before .wide .ensures .0, c .before .before .number-at .ensures)))
+    passed-more o (c .before .before .before .before .loop .v) (c .before .before .before .before .loop .inv) (le-ltb (a .bound) _ (omega (arith, c .if1 .left, c .before .wide .ensures .0, c .before .before .read-at .ensures)))
 
 returns-2 : tie.Need-returns-2 Inv-loop μ-loop
 returns-2 c =
@@ -58,7 +58,7 @@ over-bound-spec =
     Inv-loop
     μ-loop
     loop-holds
-    number-at-requires
+    read-at-requires
     wide-requires
     returns
     add-v

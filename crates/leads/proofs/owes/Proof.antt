@@ -9,8 +9,8 @@ use Rattle.leads.proofs.owes.Tie as tie
 input-requires : tie.Need-input-requires
 input-requires c κs = search needs
 
-number-at-requires : tie.Need-number-at-requires
-number-at-requires c κs = search needs
+read-at-requires : tie.Need-read-at-requires
+read-at-requires c κs = search needs
 
 wide-requires : tie.Need-wide-requires
 wide-requires c κs = search needs
@@ -18,7 +18,7 @@ wide-requires c κs = search needs
 returns : tie.Need-returns
 returns c =
     let a = c .before .before .before .before .before .before .before .args in
-    owes-is (netOf (a .file .now) (a .net .now)) (a .v) (c .before .before .before .input .ensures .0) (c .before .before .if1 .taken) (c .wide .ensures .0 ∙ c .before .number-at .ensures ∙ c .before .before .before .before .before .before .before .pre .1 .1 (a .v) (c .before .before .before .before .before .before .before .pre .1 .0))
+    owes-is (netOf (a .file .now) (a .net .now)) (a .v) (c .before .before .before .input .ensures .0) (c .before .before .if1 .taken) (c .wide .ensures .0 ∙ c .before .read-at .ensures ∙ c .before .before .before .before .before .before .before .pre .1 .1 (a .v) (c .before .before .before .before .before .before .before .pre .1 .0))
 
 returns-2 : tie.Need-returns-2
 returns-2 c =
@@ -26,4 +26,4 @@ returns-2 c =
     owes-not (netOf (a .file .now) (a .net .now)) (a .v) (c .before .input .ensures .0) (c .if1 .left)
 
 pub owes-spec : {M : Type 1} → statement M
-owes-spec = tie.close (tie.spec input-requires number-at-requires wide-requires returns returns-2)
+owes-spec = tie.close (tie.spec input-requires read-at-requires wide-requires returns returns-2)

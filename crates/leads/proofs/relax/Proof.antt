@@ -16,8 +16,8 @@ Inv-loop file net bound x leads₀ own taken n raised₀ p₀ leads raised p = (
 abbrev μ-loop : tie.MeasureT-loop
 μ-loop file net bound x leads₀ own taken n raised₀ p₀ leads raised p = n - p
 
-number-at-requires : tie.Need-number-at-requires Inv-loop μ-loop
-number-at-requires c κs = search needs
+read-at-requires : tie.Need-read-at-requires Inv-loop μ-loop
+read-at-requires c κs = search needs
 
 wide-requires : tie.Need-wide-requires Inv-loop μ-loop
 wide-requires c κs = search needs
@@ -26,7 +26,7 @@ same-length : tie.Need-same-length Inv-loop μ-loop
 same-length c = search needs
 
 returns : tie.Need-returns Inv-loop μ-loop
-returns c = (omega arith, relax-over _ (c .before .before .before .before .before .before .before .pre .1 .3) (omega (arith, c .before .wide .ensures .0 ∙ c .before .before .number-at .ensures, c .if1 .taken, c .before .before .before .before .before .before .before .pre .1 .1)))
+returns c = (omega arith, relax-over _ (c .before .before .before .before .before .before .before .pre .1 .3) (omega (arith, c .before .wide .ensures .0 ∙ c .before .before .read-at .ensures, c .if1 .taken, c .before .before .before .before .before .before .before .pre .1 .1)))
 
 register-requires : tie.Need-register-requires Inv-loop μ-loop
 register-requires c κs = search needs
@@ -72,7 +72,7 @@ loop-again c =
     let a = c .before .before .before .before .before .before .before .before .before .before .before .before .before .before .before .before .before .args in
     let p = c .before .before .before .before .before .before .before .before .before .before .before .before .before .before .before .before .before .pre in
     let k = c .before .before .before .before .before .before .before .loop .inv in
-    let own = c .before .before .before .before .before .before .before .before .before .before .before .wide .ensures .0 ∙ c .before .before .before .before .before .before .before .before .before .before .before .before .number-at .ensures in (
+    let own = c .before .before .before .before .before .before .before .before .before .before .before .wide .ensures .0 ∙ c .before .before .before .before .before .before .before .before .before .before .before .before .read-at .ensures in (
       c .before .before .raise .kept .0 ∙ k .0,
       omega (arith, raise-bit (c .before .before .raise .ensures), k .1),
       omega arith,
@@ -85,7 +85,7 @@ same-length-2 c = c .before .loop .inv .0
 returns-2 : tie.Need-returns-2 Inv-loop μ-loop
 returns-2 c =
     let k = c .before .loop .inv in
-    (omega (arith, k .1, k .2, c .before .before .source-count .ensures .1), relax-done _ (c .before .before .before .before .before .before .before .before .before .before .before .pre .1 .2) (c .before .before .source-count .ensures .0) (c .before .before .before .before .before .wide .ensures .0 ∙ c .before .before .before .before .before .before .number-at .ensures) (c .loop-test .left) (k .3))
+    (omega (arith, k .1, k .2, c .before .before .source-count .ensures .1), relax-done _ (c .before .before .before .before .before .before .before .before .before .before .before .pre .1 .2) (c .before .before .source-count .ensures .0) (c .before .before .before .before .before .wide .ensures .0 ∙ c .before .before .before .before .before .before .read-at .ensures) (c .loop-test .left) (k .3))
 
 pub relax-spec : {M : Type 1} → statement M
 relax-spec =
@@ -93,7 +93,7 @@ relax-spec =
     (tie.spec
     Inv-loop
     μ-loop
-    number-at-requires
+    read-at-requires
     wide-requires
     same-length
     returns

@@ -19,13 +19,13 @@ abbrev μ-loop : tie.MeasureT-loop
 μ-loop file net₀ area n i₀ net i = n - i
 
 node-count-requires : tie.Need-node-count-requires Inv-loop μ-loop
-node-count-requires c κs = c .before .before .before .before .pre
+node-count-requires c κs = c .before .before .before .before .pre .0
 
 loop-holds : tie.Need-loop-holds Inv-loop μ-loop
-loop-holds c = (omega arith, refl, refl, c .before .before .before .before .before .pre, λ j l. absurd (omega arith))
+loop-holds c = (omega arith, refl, refl, c .before .before .before .before .before .pre .0, λ j l. absurd (omega arith))
 
-number-at-requires : tie.Need-number-at-requires Inv-loop μ-loop
-number-at-requires c κs = search needs
+read-at-requires : tie.Need-read-at-requires Inv-loop μ-loop
+read-at-requires c κs = search needs
 
 put-order-requires : tie.Need-put-order-requires Inv-loop μ-loop
 put-order-requires c κs =
@@ -44,7 +44,7 @@ loop-again c =
     let l = c .before .before .before .before .before .before .loop in
     let k = l .inv in
     let w = c .before .before .put-order in
-    let x = c .before .before .before .number-at .ensures in
+    let x = c .before .before .before .read-at .ensures in
     let h : l .i < length (orderOf (l .net)) = omega (arith, size-order (l .net), size-of (a .file .now) (l .net), ap size (k .2), c .before .before .before .before .before .loop-test .taken, c .before .before .before .before .before .before .before .node-count .ensures .0) in
     (omega arith, w .kept .1 .0 ∙ k .1, w .ensures .0 ∙ k .2, w .ensures .1, copied-more (orderOf (l .net)) (a .area .now) h (w .ensures .2) x (k .4))
 
@@ -64,7 +64,7 @@ keep-order-spec =
     μ-loop
     node-count-requires
     loop-holds
-    number-at-requires
+    read-at-requires
     put-order-requires
     add-i
     loop-less

@@ -33,11 +33,17 @@ loop-holds c = λ j h. absurd (omega arith)
 source-of-requires : tie.Need-source-of-requires Inv-loop μ-loop
 source-of-requires c κs = search needs
 
-add-number-at : tie.Need-add-number-at Inv-loop μ-loop
-add-number-at c = search needs
+add-read-at : tie.Need-add-read-at Inv-loop μ-loop
+add-read-at c = search needs
 
-number-at-requires : tie.Need-number-at-requires Inv-loop μ-loop
-number-at-requires c κs = search needs
+read-at-requires : tie.Need-read-at-requires Inv-loop μ-loop
+unfolding Sourced
+read-at-requires c κs =
+    let s = c .before .before .before .before .before .before .before in
+    let N = netOf (s .args .file .now) (s .args .net .now) in
+    let n = c .before .before .before .count-at in
+    let inside = s .pre .1 .0 (s .args .v) (c .before .before .loop .p) (s .pre .1 .1) (omega (arith, c .before .loop-test .taken, n .ensures .0, inClock .few (elementAt N (s .args .v)))) in
+    omega (arith, c .source-of .ensures .0, inside, s .pre .0 .few, s .pre .1 .2)
 
 returns : tie.Need-returns Inv-loop μ-loop
 unfolding Sourced
@@ -46,7 +52,7 @@ returns c =
     let a = s .args in
     let N = netOf (a .file .now) (a .net .now) in
     let p = c .before .before .before .before .loop .p in
-    let flag = flag-read (a .area .now) (s .pre .1 .2) (c .before .before .source-of .ensures .0) (c .before .number-at .ensures) in
+    let flag = flag-read (a .area .now) (s .pre .1 .2) (c .before .before .source-of .ensures .0) (c .before .read-at .ensures) in
     let q : ℕ → Bool = λ j. on (flagsIn (a .area .now)) (source N (a .v) j) in
     let n = c .before .before .before .before .before .count-at in
     let off = le-ltb 0 (getD (flagsIn (a .area .now)) (source N (a .v) p) 0) (omega (arith, c .if1 .taken, flag)) in
@@ -68,7 +74,7 @@ loop-again c =
     let a = s .args in
     let N = netOf (a .file .now) (a .net .now) in
     let p = c .before .before .before .before .loop .p in
-    let flag = flag-read (a .area .now) (s .pre .1 .2) (c .before .before .source-of .ensures .0) (c .before .number-at .ensures) in
+    let flag = flag-read (a .area .now) (s .pre .1 .2) (c .before .before .source-of .ensures .0) (c .before .read-at .ensures) in
     let here = lt-ltb 0 (getD (flagsIn (a .area .now)) (source N (a .v) p) 0) (omega (arith, c .if1 .left, flag)) in
     λ j h. ⊎-elim (λ l. c .before .before .before .before .loop .inv j l) (λ e. ap (λ (k : ℕ). on (flagsIn (a .area .now)) (source N (a .v) k)) e ∙ here) (lt-suc-split (let b : j < suc p = omega arith in b))
 
@@ -89,8 +95,8 @@ missing-spec =
     count-at-requires
     loop-holds
     source-of-requires
-    add-number-at
-    number-at-requires
+    add-read-at
+    read-at-requires
     returns
     add-p
     loop-less

@@ -16,11 +16,11 @@ Inv-loop file net v start area₀ w₀ k₀ i₀ area w k i = (length area ≡ l
 abbrev μ-loop : tie.MeasureT-loop
 μ-loop file net v start area₀ w₀ k₀ i₀ area w k i = 1024 - i
 
-add-number-at : tie.Need-add-number-at Inv-loop μ-loop
-add-number-at c = search needs
+add-read-at : tie.Need-add-read-at Inv-loop μ-loop
+add-read-at c = search needs
 
-number-at-requires : tie.Need-number-at-requires Inv-loop μ-loop
-number-at-requires c κs = search needs
+read-at-requires : tie.Need-read-at-requires Inv-loop μ-loop
+read-at-requires c κs = search needs
 
 wide-requires : tie.Need-wide-requires Inv-loop μ-loop
 wide-requires c κs = search needs
@@ -37,11 +37,11 @@ returns c = c .before .before .loop .inv .3
 sub-node : tie.Need-sub-node Inv-loop μ-loop
 sub-node c = search needs
 
-add-number-at-2 : tie.Need-add-number-at-2 Inv-loop μ-loop
-add-number-at-2 c = search needs
+add-number-at : tie.Need-add-number-at Inv-loop μ-loop
+add-number-at c = search needs
 
-number-at-requires-2 : tie.Need-number-at-requires-2 Inv-loop μ-loop
-number-at-requires-2 c κs = search needs
+number-at-requires : tie.Need-number-at-requires Inv-loop μ-loop
+number-at-requires c κs = search needs
 
 wide-requires-2 : tie.Need-wide-requires-2 Inv-loop μ-loop
 wide-requires-2 c κs = search needs
@@ -73,15 +73,15 @@ wake-spec =
     (tie.spec
     Inv-loop
     μ-loop
-    add-number-at
-    number-at-requires
+    add-read-at
+    read-at-requires
     wide-requires
     loop-holds
     same-length
     returns
     sub-node
-    add-number-at-2
-    number-at-requires-2
+    add-number-at
+    number-at-requires
     wide-requires-2
     place-if-requires
     add-i

@@ -1,11 +1,12 @@
 -- The loop's invariant: so many are placed.
 use mathlib.Core.Path.{_≡_, refl, _∙_}
-use Prim.Native.Nat.{_-_, _≤_}
+use Prim.Native.Nat.{_-_, _≤_, _<_}
 use native.Mathlib.Omega.{arith}
 use lib.ListN.{length}
 use Rattle.netlist.specs.Net.{inClock}
 use Rattle.circuit.specs.Circuit.{netOf}
 use Rattle.order.specs.Order.{flagsIn, orderIn, Placed}
+use Rattle.order.proofs.Places.{order-read}
 use borrow.Author.Needs.{needs}
 use Rattle.order.proofs.wake_all.Statement.{statement}
 use Rattle.order.proofs.wake_all.Tie as tie
@@ -28,8 +29,8 @@ same-length c = c .before .before .loop .inv .1
 returns : tie.Need-returns Inv-loop μ-loop
 returns c = c .before .before .loop .inv .2
 
-number-at-requires : tie.Need-number-at-requires Inv-loop μ-loop
-number-at-requires c κs = search needs
+read-at-requires : tie.Need-read-at-requires Inv-loop μ-loop
+read-at-requires c κs = search needs
 
 wide-requires : tie.Need-wide-requires Inv-loop μ-loop
 wide-requires c κs = search needs
@@ -37,8 +38,12 @@ wide-requires c κs = search needs
 wake-requires : tie.Need-wake-requires Inv-loop μ-loop
 wake-requires c κs =
     let p = c .before .before .before .before .before .before .before .before .before .before .before .pre in
-    let k = c .before .before .before .before .before .before .loop .inv in
-    (p .0, (p .1 .0, c .before .wide .ensures .1, k .1 ∙ p .1 .1, k .2))
+    let l = c .before .before .before .before .before .before .loop in
+    let k = l .inv in
+    let i : l .i < 1024 = omega (arith, c .before .before .before .before .before .loop-test .taken, c .before .before .before .before .before .before .before .node-count .ensures .1) in
+    let inside = k .2 .ordered .inside (l .i) (omega (arith, c .before .before .before .before .if1 .left)) in
+    let node = order-read (l .area) i (c .before .wide .ensures .0 ∙ c .before .before .read-at .ensures) in
+    (p .0, (p .1 .0, omega (arith, node, inside, p .0 .few), k .1 ∙ p .1 .1, k .2))
 
 add-i : tie.Need-add-i Inv-loop μ-loop
 add-i c = search needs
@@ -65,7 +70,7 @@ wake-all-spec =
     loop-holds
     same-length
     returns
-    number-at-requires
+    read-at-requires
     wide-requires
     wake-requires
     add-i

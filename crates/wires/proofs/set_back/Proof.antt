@@ -21,11 +21,11 @@ loop-holds c =
     let p = c .before .before .before .pre in
     (refl, setting-none _ (p .1 .3) (p .1 .2) (p .1 .5) (p .1 .6), refl)
 
-add-number-at : tie.Need-add-number-at Inv-loop μ-loop
-add-number-at c = omega (arith, c .before .loop .inv .1 .inside, c .before .before .before .before .before .pre .0 .few)
+add-read-at : tie.Need-add-read-at Inv-loop μ-loop
+add-read-at c = omega (arith, c .before .loop .inv .1 .inside, c .before .before .before .before .before .pre .0 .few)
 
-number-at-requires : tie.Need-number-at-requires Inv-loop μ-loop
-number-at-requires c κs = search needs
+read-at-requires : tie.Need-read-at-requires Inv-loop μ-loop
+read-at-requires c κs = search needs
 
 put-wire-requires : tie.Need-put-wire-requires Inv-loop μ-loop
 put-wire-requires c κs = search needs
@@ -38,7 +38,7 @@ sub-left c =
     let s = c .before .before .before .before .before .before .before .before .before .before .before .before in
     let l = c .before .before .before .before .before .before .before .before .loop in
     let t = l .inv .1 in
-    let m = sym (pass-at (l .timing) (l .u) (t .inside) (s .pre .0 .few) (c .before .before .before .before .before .before .number-at .ensures)) ∙ c .before .before .before .before .before .if1 .taken in
+    let m = sym (pass-at (l .timing) (l .u) (t .inside) (s .pre .0 .few) (c .before .before .before .before .before .before .read-at .ensures)) ∙ c .before .before .before .before .before .if1 .taken in
     let b = back-waiting _ (t .half) (t .inside) (s .pre .1 .0) (s .pre .1 .1) (s .pre .0 .few) m (c .source-of .ensures .0) in
     omega (arith, t .its-passes, b .more)
 
@@ -50,7 +50,7 @@ loop-again c =
     let s = c .before .before .before .before .before .before .before .before .before .before .before .before in
     let l = c .before .before .before .before .before .before .before .before .loop in
     let t = l .inv .1 in
-    let m = sym (pass-at (l .timing) (l .u) (t .inside) (s .pre .0 .few) (c .before .before .before .before .before .before .number-at .ensures)) ∙ c .before .before .before .before .before .if1 .taken in
+    let m = sym (pass-at (l .timing) (l .u) (t .inside) (s .pre .0 .few) (c .before .before .before .before .before .before .read-at .ensures)) ∙ c .before .before .before .before .before .if1 .taken in
     let b = back-waiting _ (t .half) (t .inside) (s .pre .1 .0) (s .pre .1 .1) (s .pre .0 .few) m (c .source-of .ensures .0) in
     let w = c .before .before .before .put-wire in
     (w .kept .0 ∙ l .inv .0, setting-more _ t (w .ensures .0) b refl, w .ensures .1 ∙ l .inv .2)
@@ -62,7 +62,7 @@ returns : tie.Need-returns Inv-loop μ-loop
 returns c =
     let l = c .before .before .before .loop in
     let t = l .inv .1 in
-    (t .half, setting-done _ t (λ e. c .if1 .left (pass-at (l .timing) (l .u) (t .inside) (c .before .before .before .before .before .before .before .pre .0 .few) (c .before .number-at .ensures) ∙ e)), l .inv .2)
+    (t .half, setting-done _ t (λ e. c .if1 .left (pass-at (l .timing) (l .u) (t .inside) (c .before .before .before .before .before .before .before .pre .0 .few) (c .before .read-at .ensures) ∙ e)), l .inv .2)
 
 pub set-back-spec : {M : Type 1} → statement M
 set-back-spec =
@@ -71,8 +71,8 @@ set-back-spec =
     Inv-loop
     μ-loop
     loop-holds
-    add-number-at
-    number-at-requires
+    add-read-at
+    read-at-requires
     put-wire-requires
     source-of-requires
     sub-left

@@ -5,11 +5,11 @@ use borrow.Author.Needs.{needs}
 use Rattle.wires.proofs.trace.Statement.{statement}
 use Rattle.wires.proofs.trace.Tie as tie
 
-add-number-at : tie.Need-add-number-at
-add-number-at c = search needs
+add-read-at : tie.Need-add-read-at
+add-read-at c = search needs
 
-number-at-requires : tie.Need-number-at-requires
-number-at-requires c κs = search needs
+read-at-requires : tie.Need-read-at-requires
+read-at-requires c κs = search needs
 
 wire-of-requires : tie.Need-wire-of-requires
 wire-of-requires c κs = search needs
@@ -30,15 +30,15 @@ returns-2 : tie.Need-returns-2
 returns-2 c =
     let s = c .before .before .before .before .before .before in
     let p = s .pre in
-    let t = traced-already _ (p .1 .3) (p .1 .2) (λ e. c .if1 .left (pass-at (s .args .timing .now) (s .args .v) (p .1 .2) (p .0 .few) (c .before .number-at .ensures) ∙ e)) in
+    let t = traced-already _ (p .1 .3) (p .1 .2) (λ e. c .if1 .left (pass-at (s .args .timing .now) (s .args .v) (p .1 .2) (p .0 .few) (c .before .read-at .ensures) ∙ e)) in
     (p .1 .3, record { here = t; still = λ s t. t }, refl)
 
 pub trace-spec : {M : Type 1} → statement M
 trace-spec =
     tie.close
     (tie.spec
-    add-number-at
-    number-at-requires
+    add-read-at
+    read-at-requires
     wire-of-requires
     set-back-requires
     same-length

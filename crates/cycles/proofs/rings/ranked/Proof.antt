@@ -22,7 +22,9 @@ loop-holds : tie.Need-loop-holds Inv-loop μ-loop
 loop-holds c = (omega arith, λ u h. absurd (omega arith))
 
 falls-requires : tie.Need-falls-requires Inv-loop μ-loop
-falls-requires c κs = search needs
+falls-requires c κs =
+    let p = c .before .before .before .before .before .before .pre in
+    (p .0, (p .1 .0, omega (arith, c .loop-test .taken, c .before .before .node-count .ensures .0), p .1 .1))
 
 returns : tie.Need-returns Inv-loop μ-loop
 returns c = λ e. absurd (false≢true e)

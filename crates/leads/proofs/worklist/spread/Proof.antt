@@ -45,8 +45,8 @@ loop-less c = search needs
 loop-again : tie.Need-loop-again Inv-loop μ-loop
 loop-again c = c .before .before .before .before .before .loop .inv
 
-number-at-requires-2 : tie.Need-number-at-requires-2 Inv-loop μ-loop
-number-at-requires-2 c κs = search needs
+read-at-requires : tie.Need-read-at-requires Inv-loop μ-loop
+read-at-requires c κs = search needs
 
 wide-requires-2 : tie.Need-wide-requires-2 Inv-loop μ-loop
 wide-requires-2 c κs = search needs
@@ -57,14 +57,14 @@ same-length c = c .before .before .before .before .before .before .before .befor
 returns : tie.Need-returns Inv-loop μ-loop
 returns c = c .before .before .before .before .before .before .before .before .before .loop .inv .2
 
-slice-aggregate-put-number : tie.Need-slice-aggregate-put-number Inv-loop μ-loop
-slice-aggregate-put-number c = sym (c .before .before .before .before .before .before .before .before .before .before .loop .inv .1)
+slice-aggregate-write-at : tie.Need-slice-aggregate-write-at Inv-loop μ-loop
+slice-aggregate-write-at c = sym (c .before .before .before .before .before .before .before .before .before .before .loop .inv .1)
 
-add-put-number : tie.Need-add-put-number Inv-loop μ-loop
-add-put-number c = search needs
+add-write-at : tie.Need-add-write-at Inv-loop μ-loop
+add-write-at c = search needs
 
-put-number-requires : tie.Need-put-number-requires Inv-loop μ-loop
-put-number-requires c κs = search needs
+write-at-requires : tie.Need-write-at-requires Inv-loop μ-loop
+write-at-requires c κs = search needs
 
 relax-requires : tie.Need-relax-requires Inv-loop μ-loop
 relax-requires c κs =
@@ -78,10 +78,10 @@ loop-again-2 : tie.Need-loop-again-2 Inv-loop μ-loop
 loop-again-2 c =
     let k = c .before .before .before .before .before .before .before .before .before .before .before .before .before .before .before .before .before .loop .inv in
     let r = c .before .before .before .relax in
-    (r .kept .1 .1 .1 .1 .0 ∙ k .0, c .before .before .before .before .before .before .put-number .kept .0 ∙ k .1, r .ensures .1 .walked)
+    (r .kept .1 .1 .1 .1 .0 ∙ k .0, c .before .before .before .before .before .before .write-at .kept .0 ∙ k .1, r .ensures .1 .walked)
 
 slice-aggregate-push-sources : tie.Need-slice-aggregate-push-sources Inv-loop μ-loop
-slice-aggregate-push-sources c = sym (c .before .before .before .before .before .before .before .put-number .kept .0 ∙ c .before .before .before .before .before .before .before .before .before .before .before .before .before .before .before .before .before .before .loop .inv .1)
+slice-aggregate-push-sources c = sym (c .before .before .before .before .before .before .before .write-at .kept .0 ∙ c .before .before .before .before .before .before .before .before .before .before .before .before .before .before .before .before .before .before .loop .inv .1)
 
 push-sources-requires : tie.Need-push-sources-requires Inv-loop μ-loop
 push-sources-requires c κs = (c .before .before .before .before .before .before .before .before .before .before .before .before .before .before .before .before .before .before .before .before .before .before .before .before .before .before .pre .0, omega (arith, c .before .before .before .before .before .before .before .before .before .before .before .before .before .before .before .before .before .before .before .before .before .before .node-count .ensures .0, c .before .before .before .before .before .before .before .before .before .before .before .before .before .if1 .left))
@@ -93,7 +93,7 @@ loop-again-3 : tie.Need-loop-again-3 Inv-loop μ-loop
 loop-again-3 c =
     let k = c .before .before .before .before .before .before .before .before .before .before .before .before .before .before .before .before .before .before .before .before .loop .inv in
     let r = c .before .before .before .before .before .before .relax in
-    (r .kept .1 .1 .1 .1 .0 ∙ k .0, c .before .push-sources .kept .1 .1 .1 .0 ∙ c .before .before .before .before .before .before .before .before .before .put-number .kept .0 ∙ k .1, r .ensures .1 .walked)
+    (r .kept .1 .1 .1 .1 .0 ∙ k .0, c .before .push-sources .kept .1 .1 .1 .0 ∙ c .before .before .before .before .before .before .before .before .before .write-at .kept .0 ∙ k .1, r .ensures .1 .walked)
 
 same-length-2 : tie.Need-same-length-2 Inv-loop μ-loop
 same-length-2 c = c .before .loop .inv .0
@@ -117,13 +117,13 @@ spread-spec =
     wide-requires
     loop-less
     loop-again
-    number-at-requires-2
+    read-at-requires
     wide-requires-2
     same-length
     returns
-    slice-aggregate-put-number
-    add-put-number
-    put-number-requires
+    slice-aggregate-write-at
+    add-write-at
+    write-at-requires
     relax-requires
     loop-less-2
     loop-again-2
