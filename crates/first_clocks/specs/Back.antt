@@ -3,7 +3,8 @@ use mathlib.Core.Path.{_≡_, ap, _∙_}
 use mathlib.Core.Logic.{⊎-elim}
 use mathlib.Core.Bool.{true}
 use mathlib.Core.List.{[]}
-use Prim.Native.Nat.{ℕ, suc, _+_, _-_, _≤_, _<_}
+use Prim.Native.Nat.{ℕ, suc, _+_, _<_}
+use native.Mathlib.Nat.{zero-add}
 use native.Mathlib.Omega.{arith}
 use lib.ListN.{getD}
 use Rattle.lists.specs.BelowLaws.{true-or-false}
@@ -11,28 +12,43 @@ use Rattle.netlist.specs.Net.{Net, size, elementAt, source, isRegister}
 use Rattle.netlist.specs.Checks.{WellFormed}
 use Rattle.behaviour.specs.Run.{zeroWord}
 use Rattle.retiming.specs.Rewrite.{root, passed}
-use Rattle.retiming.specs.Wires.{ringless-rooted, wire-next, wire-none, behind, register-after, delay}
+use Rattle.retiming.specs.Wires.{Rooted, ringless-rooted, root-within, wire-next, wire-none, behind, register-after, delay}
 use Rattle.first_clocks.specs.ZeroRun.{behaves}
 
+-- node u stands so many registers back from v on its wire, and had the words of v as many clocks before
+pub record Back (N : Net) (v back u : ℕ) : Type 0 where
+  pub inside : u < size N
+  pub along : passed N v ≡ back + passed N u
+  pub same : (t : ℕ) → zeroWord N (back + t) v ≡ zeroWord N t u
+
+-- of a number that may be no node's
+abbrev pub Remembered : Net → ℕ → ℕ → ℕ → Type 0
+Remembered N v back u = v < size N → Back N v back u
+
+pub back-none : (N : Net) (v : ℕ) → v < size N → Back N v 0 v
+back-none N v h = record { inside = h; along = omega arith; same = λ t. ap (λ (s : ℕ). zeroWord N s v) (zero-add t) }
+
 module _ (N : Net) (wf : WellFormed N) where
-  -- beyond the registers on its wire it is a word of the root
-  pub at-root : (v t : ℕ) → v < size N → passed N v ≤ t → zeroWord N t v ≡ zeroWord N (t - passed N v) (root N v)
-  at-root v t h l =
-      ap (λ (s : ℕ). zeroWord N s v) (let e : t ≡ (t - passed N v) + passed N v = omega arith in e)
-      ∙ delay N (wf .sourced) (λ s port. getD [] port 0) (zeroWord N) (behaves N wf) v h (t - passed N v)
+  rooted : Rooted N
+  rooted = ringless-rooted N (wf .sourced) (wf .no-ring)
 
-  -- before that, a register's is what its source had a clock before
-  pub record Behind (v t : ℕ) : Type 0 where
-    pub inside : source N v 0 < size N
-    pub far : t < passed N (source N v 0)
-    pub same : zeroWord N (t + 1) v ≡ zeroWord N t (source N v 0)
+  -- the root is behind all registers of its wire
+  pub back-root : (v : ℕ) → v < size N → Back N v (passed N v) (root N v)
+  unfolding Rooted
+  back-root v h = record {
+    inside = root-within N (wf .sourced) v h;
+    along = omega (arith, wire-none N (root N v) (rooted v h) .1);
+    same = λ t. ap (λ (s : ℕ). zeroWord N s v) (let e : passed N v + t ≡ t + passed N v = omega arith in e) ∙ delay N (wf .sourced) (λ s port. getD [] port 0) (zeroWord N) (behaves N wf) v h t;
+  }
 
-  pub one-back : (v t : ℕ) → v < size N → t + 1 < passed N v → Behind v t
-  one-back v t h l = ⊎-elim register (λ e. absurd (omega (arith, wire-none N v e .1))) (true-or-false (isRegister (elementAt N v)))
+  -- a register further
+  pub back-more : {v back u : ℕ} → Back N v back u → back < passed N v → Back N v (back + 1) (source N u 0)
+  back-more {v} {back} {u} b l = ⊎-elim register (λ e. absurd (omega (arith, wire-none N u e .1, b .along))) (true-or-false (isRegister (elementAt N u)))
     where
-      register : isRegister (elementAt N v) ≡ true → Behind v t
+      register : isRegister (elementAt N u) ≡ true → Back N v (back + 1) (source N u 0)
       register e = record {
-        inside = behind N (wf .sourced) v h e;
-        far = omega (arith, wire-next N (ringless-rooted N (wf .sourced) (wf .no-ring)) v h e .1);
-        same = ap (λ (s : ℕ). zeroWord N s v) (let q : t + 1 ≡ suc t = omega arith in q) ∙ register-after N (wf .sourced) (λ s port. getD [] port 0) (zeroWord N) (behaves N wf) v t h e;
+        inside = behind N (wf .sourced) u (b .inside) e;
+        along = omega (arith, b .along, wire-next N rooted u (b .inside) e .1);
+        same = λ t. ap (λ (s : ℕ). zeroWord N s v) (let q : back + 1 + t ≡ back + suc t = omega arith in q) ∙ b .same (suc t)
+            ∙ register-after N (wf .sourced) (λ s port. getD [] port 0) (zeroWord N) (behaves N wf) u t (b .inside) e;
       }

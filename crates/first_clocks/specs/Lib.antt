@@ -1,3 +1,5 @@
 pub mod Back
+pub mod Queue
 pub mod Wanted
 pub mod ZeroRun
+pub mod NextClock

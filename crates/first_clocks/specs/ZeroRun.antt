@@ -170,13 +170,11 @@ module _ (N : Net) (wf : WellFormed N) where
         ∙ next-gives (contentsAt N v) (widthAt N v) (λ p. widthAt N (source N v p)) (λ s. getD [] (portOf N v) 0) (λ p s. zeroWord N s (source N v p)) t (elementAt N v) e
         ∙ sym (behaves (suc t) v h) ∙ ap (λ (s : ℕ). zeroWord N s v) (let q : suc t ≡ t + 1 = omega arith in q)
 
-    pub input-word : (v : ℕ) → v < size N → isInput (elementAt N v) ≡ true → 0 ≡ zeroWord N (t + 1) v
-    unfolding Behaves
-    input-word v h e =
-        input-gives (contentsAt N v) (widthAt N v) (λ p. widthAt N (source N v p)) (λ s. getD [] (portOf N v) 0) (λ p s. zeroWord N s (source N v p)) (t + 1) (elementAt N v) e ∙ sym (behaves (t + 1) v h)
-
-pub loads-as : {N : Net} {t : ℕ} {ws ws′ : List ℕ} → ws′ ≡ ws → Loads N t ws → Loads N t ws′
-loads-as {N} {t} e l = subst (Loads N t) (sym e) l
+  -- an input port has 0 at every clock
+  pub input-word : (t v : ℕ) → v < size N → isInput (elementAt N v) ≡ true → 0 ≡ zeroWord N t v
+  unfolding Behaves
+  input-word t v h e =
+      input-gives (contentsAt N v) (widthAt N v) (λ p. widthAt N (source N v p)) (λ s. getD [] (portOf N v) 0) (λ p s. zeroWord N s (source N v p)) t (elementAt N v) e ∙ sym (behaves t v h)
 
 -- ---- a list that is loaded node by node
 

@@ -1,30 +1,45 @@
 // The first words of a netlist: it is run from reset, with all inputs 0, and the words that are wanted are taken clock by clock.
+mod holders;
+mod queue;
+
 use areas::copy;
+use areas::fill;
 use areas::number_at;
 use areas::put_number;
+use areas::write_at;
 use circuit::node_count;
 use circuit::number_of;
-use circuit::source_of;
 use circuit::wide;
 use evaluate::Row;
 use evaluate::evaluate;
 use evaluate::lent::in_row;
+use evaluate::lent::row_members;
 use evaluate::next_word;
+use holders::Held;
+use holders::holder_at;
+use queue::enqueue;
+use queue::take_due;
 ghost use mathlib.Core.Path.{_≡_};
-ghost use mathlib.Core.Bool.{true, false};
-ghost use Prim.Native.Nat.{ℕ, _+_, _-_, _<_, _≤_};
+ghost use mathlib.Core.Bool.{true};
+ghost use mathlib.Core.List.{List};
+ghost use Prim.Native.Nat.{ℕ, _+_, _<_, _≤_};
 ghost use lib.ListN.{length, getD};
 ghost use Rattle.netlist.specs.Net.{Net, size, inClock};
 ghost use Rattle.netlist.specs.Checks.{WellFormed};
 ghost use Rattle.circuit.specs.Circuit.{orderOf};
 ghost use Rattle.circuit.specs.Opened.{opened};
 ghost use Rattle.circuit.specs.Order.{Complete};
-ghost use Rattle.behaviour.specs.Run.{zeroWord};
 ghost use Rattle.evaluate.specs.Clock.{Inside};
-ghost use Rattle.evaluate.specs.Next.{WordsFit};
-ghost use Rattle.wires.specs.Traced.{AllTraced};
-ghost use Rattle.first_clocks.specs.Wanted.{OfNodes, Taken, WordsAt, OfClock, due, DueAt, DueBefore, NamedTo, TakenTo};
+ghost use Rattle.evaluate.specs.Next.{nextWord, WordsFit};
+ghost use Rattle.evaluate.specs.Rows.{rowTest, rowMembers};
+ghost use Rattle.wires.specs.Traced.{rootsIn, passesIn, AllTraced};
+ghost use Rattle.first_clocks.specs.Queue.{duesIn, Queued, QueuedWithin};
+ghost use Rattle.first_clocks.specs.Wanted.{OfNodes, Taken, WordsAt, OfClock, NamedFrom, Asked, TakenBefore};
 ghost use Rattle.first_clocks.specs.ZeroRun.{Begins, Loads};
+ghost use Rattle.first_clocks.specs.NextClock.{Stored};
+
+// The queue's words: see queue.rt.
+pub const QUEUE: usize = 7168;
 
 // The word with which node v begins the first clock: its reset word.
 fn first_word(file: &[u8], net: &[u16], v: usize) -> u16
@@ -54,153 +69,6 @@ fn load_reset(file: &[u8], net: &[u16], words: &mut [u16])
     }
 }
 
-// ---- which words are due
-
-// After how many clocks the word that v has at a clock is due: those that the registers on its wire do not cover.
-fn due_after(passes: &[u16], v: usize, clock: u16) -> u16
-    ensures { λ r. ⌜ r ≡ clock - getD (now (passes .entry)) v 0 ⌝ }
-{
-    let through = number_at(passes, v);
-    if clock < through { 0 } else { clock - through }
-}
-
-// How many clocks are run, where place k is counted too.
-fn run_until(passes: &[u16], clocks: &[u16], wanted: &[u16], k: usize, limit: usize) -> usize
-    requires { ⌜ k < length (now clocks) ⌝ }
-    ensures { λ r. ⌜ (limit ≤ r) × (limit ≤ 65535 → r ≤ 65535)
-        × (getD (now (clocks .entry)) k 0 < 65535 → due (now (passes .entry)) (now (clocks .entry)) (now (wanted .entry)) k < r) ⌝ }
-{
-    let clock = clocks[k];
-    if clock < 65535 {
-        let last = wide(due_after(passes, wide(number_at(wanted, k)), clock));
-        if limit <= last {
-            return last + 1;
-        }
-    }
-    limit
-}
-
-// How many clocks are run until all words are due.
-fn clocks_to_run(passes: &[u16], clocks: &[u16], wanted: &[u16]) -> usize
-    ensures { λ r. ⌜ (r ≤ 65535) × DueBefore (now (passes .entry)) (now (clocks .entry)) (now (wanted .entry)) r (length (now (clocks .entry))) ⌝ }
-{
-    let mut limit: usize = 0;
-    let mut k: usize = 0;
-    while k < clocks.len() {
-        limit = run_until(passes, clocks, wanted, k, limit);
-        k = k + 1;
-    }
-    limit
-}
-
-// The node that has, where it is due, the word that v has at a clock: the root of its wire, or a register on the way back to it.
-fn holder(file: &[u8], net: &[u16], roots: &[u16], passes: &[u16], v: usize, clock: u16) -> usize
-    ghost { Net }
-    requires { λ N. opened 𝓤 (now file) (now net) N (WellFormed N × AllTraced N (now roots) (now passes) × (v < size N)) }
-    ensures { λ N r. ⌜ (r < size N) × (zeroWord N clock v ≡ zeroWord N (clock - getD (now (passes .entry)) v 0) r) ⌝ }
-{
-    if number_at(passes, v) <= clock {
-        return wide(number_at(roots, v));
-    }
-    let mut u = v;
-    let mut left = clock;
-    while 0 < left {
-        u = source_of(file, net, u, 0);
-        left = left - 1;
-    }
-    u
-}
-
-// Every place that wants a word names the node that has it where it is due: the word is then put over the name.
-fn name_holders(
-    file: &[u8],
-    net: &[u16],
-    roots: &[u16],
-    passes: &[u16],
-    clocks: &[u16],
-    wanted: &[u16],
-    found: &mut [u16],
-)
-    ghost { Net }
-    requires { λ N. opened 𝓤 (now file) (now net) N (WellFormed N × AllTraced N (now roots) (now passes) × OfNodes N (now clocks) (now wanted)
-        × (length (now clocks) ≤ length (now found))) }
-    ensures { λ N _. ⌜ NamedTo N (now (passes .entry)) (now (clocks .entry)) (now (wanted .entry)) (now (found .entry)) (now (found .exit)) (length (now (clocks .entry))) ⌝ }
-{
-    let mut k: usize = 0;
-    while k < clocks.len() {
-        let clock = clocks[k];
-        if clock < 65535 {
-            let v = wide(number_at(wanted, k));
-            put_number(found, k, holder(file, net, roots, passes, v, clock) as u16);
-        }
-        k = k + 1;
-    }
-}
-
-// Whether place k wants a word that is due at clock t.
-fn is_due(passes: &[u16], clocks: &[u16], wanted: &[u16], t: u16, k: usize) -> bool
-    requires { ⌜ k < length (now clocks) ⌝ }
-    ensures yes { λ r. ⌜ (r ≡ true → DueAt (now (passes .entry)) (now (clocks .entry)) (now (wanted .entry)) t k) ⌝ }
-    ensures no { λ r. ⌜ (r ≡ false → DueAt (now (passes .entry)) (now (clocks .entry)) (now (wanted .entry)) t k → ⊥) ⌝ }
-{
-    let clock = clocks[k];
-    if clock < 65535 {
-        due_after(passes, wide(number_at(wanted, k)), clock) == t
-    } else {
-        false
-    }
-}
-
-// Takes the words that are due at clock t, whose words are given.
-fn take_due(
-    passes: &[u16],
-    clocks: &[u16],
-    wanted: &[u16],
-    t: u16,
-    words: &[u16],
-    found: &mut [u16],
-)
-    requires { ⌜ length (now clocks) ≤ length (now found) ⌝ }
-    ensures { λ _. ⌜ TakenTo (now (passes .entry)) (now (clocks .entry)) (now (wanted .entry)) t (now (words .entry)) (now (found .entry)) (now (found .exit)) (length (now (clocks .entry))) ⌝ }
-{
-    let mut k: usize = 0;
-    while k < clocks.len() {
-        if is_due(passes, clocks, wanted, t, k) {
-            put_number(found, k, number_at(words, wide(number_at(found, k))));
-        }
-        k = k + 1;
-    }
-}
-
-// ---- clock by clock
-
-// The word with which node v begins the next clock, from the words of this one.
-fn begins_with(file: &[u8], net: &[u16], v: usize, words: &[u16]) -> u16
-    ghost { Net }
-    requires { λ N. opened 𝓤 (now file) (now net) N (WellFormed N × (v < size N) × WordsFit N (now words)) }
-    ensures { λ N r. ⌜ ((t : ℕ) → WordsAt N t (now (words .entry)) → Begins N (t + 1) v r) ⌝ }
-{
-    if in_row(file, net, Row::State, v) {
-        next_word(file, net, v, words)
-    } else {
-        0
-    }
-}
-
-// Loads the words with which the next clock begins.
-fn load_next(file: &[u8], net: &[u16], words: &[u16], next: &mut [u16])
-    ghost { Net }
-    requires { λ N. opened 𝓤 (now file) (now net) N (WellFormed N × (size N ≤ length (now next)) × WordsFit N (now words)) }
-    ensures { λ N _. ⌜ ((t : ℕ) → WordsAt N t (now (words .entry)) → Loads N (t + 1) (now (next .exit))) ⌝ }
-{
-    let n = node_count(file, net);
-    let mut v: usize = 0;
-    while v < n {
-        put_number(next, v, begins_with(file, net, v, words));
-        v = v + 1;
-    }
-}
-
 // The words of the first clock.
 pub fn first_clock(file: &[u8], net: &[u16], words: &mut [u16])
     ghost { Net }
@@ -211,44 +79,145 @@ pub fn first_clock(file: &[u8], net: &[u16], words: &mut [u16])
     evaluate(file, net, words);
 }
 
-// The words of the next clock, over those of this one.
-fn next_clock(file: &[u8], net: &[u16], words: &mut [u16])
+// ---- clock by clock
+
+// The words that registers and clocked ROMs hold after the clock, by node number.
+fn hold_next(file: &[u8], net: &[u16], members: &[u16], words: &[u16], next: &mut [u16])
     ghost { Net }
-    requires { λ N. opened 𝓤 (now file) (now net) N (WellFormed N × Inside N × Complete inClock N (orderOf (now net)) × (length (now words) ≡ 1024) × OfClock N (now words)) }
+    requires { λ N. opened 𝓤 (now file) (now net) N (WellFormed N × (now members ≡ rowMembers Row.State N) × WordsFit N (now words) × (size N ≤ length (now next))) }
+    ensures { λ N _. ⌜ ((v : ℕ) → v < size N → rowTest Row.State N v ≡ true → getD (now (next .exit)) v 0 ≡ nextWord N (now (words .entry)) v) ⌝ }
+{
+    let mut i: usize = 0;
+    while i < members.len() {
+        let v = wide(members[i]);
+        write_at(next, v, next_word(file, net, v, words));
+        i = i + 1;
+    }
+}
+
+// Puts them in the place of those of this clock.
+fn store_next(members: &[u16], next: &[u16], words: &mut [u16])
+    ensures { λ _. ⌜ Stored (now (members .entry)) (now (next .entry)) (now (words .entry)) (now (words .exit)) (length (now (members .entry))) ⌝ }
+{
+    let mut i: usize = 0;
+    while i < members.len() {
+        let v = wide(members[i]);
+        put_number(words, v, number_at(next, v));
+        i = i + 1;
+    }
+}
+
+// The words of the next clock, over those of this one. Input ports keep their 0.
+fn next_clock(file: &[u8], net: &[u16], members: &[u16], words: &mut [u16])
+    ghost { Net }
+    requires { λ N. opened 𝓤 (now file) (now net) N (WellFormed N × Inside N × Complete inClock N (orderOf (now net)) × (now members ≡ rowMembers Row.State N)
+        × (length (now words) ≡ 1024) × OfClock N (now words)) }
     ensures { λ N _. ⌜ ((t : ℕ) → WordsAt N t (now (words .entry)) → WordsAt N (t + 1) (now (words .exit))) ⌝ }
 {
     let mut next = [0u16; 1024];
-    load_next(file, net, words, &mut next);
-    copy(&next, words);
+    hold_next(file, net, members, words, &mut next);
+    store_next(members, &next, words);
     evaluate(file, net, words);
 }
 
-// Takes all words that are wanted, from the words of the first clock on. Place k wants the word of node wanted[k] at clock clocks[k], or none where that is 65,535.
-pub fn first_words(
+// ---- the words that are wanted
+
+// How many clocks are run, where a word is due at this clock too.
+fn until(limit: usize, due: usize) -> usize
+    requires { ⌜ due < 65535 ⌝ }
+    ensures { λ r. ⌜ (limit ≤ r) × (due < r) × (limit ≤ 65535 → r ≤ 65535) ⌝ }
+{
+    if limit <= due { due + 1 } else { limit }
+}
+
+// Every place that wants a word gets the number of the node that has it when it is due, and stands in the queue; gives how many clocks are run until all are due.
+fn name_holders(
     file: &[u8],
     net: &[u16],
-    roots: &[u16],
-    passes: &[u16],
-    start: &[u16],
+    timing: &[u16],
     clocks: &[u16],
     wanted: &[u16],
+    queue: &mut [u16],
+    found: &mut [u16],
+) -> usize
+    ghost { Net }
+    requires { λ N. opened 𝓤 (now file) (now net) N (WellFormed N × AllTraced N (rootsIn (now timing)) (passesIn (now timing)) × (length (now timing) ≡ 3072)
+        × OfNodes N (now clocks) (now wanted) × (length (now clocks) ≤ 3072) × (length (now clocks) ≤ length (now found)) × (length (now queue) ≡ 7168)) }
+    ensures { λ N r. ⌜ NamedFrom N (now (clocks .entry)) (now (wanted .entry)) (now (found .entry)) (duesIn (now (queue .exit))) (now (found .exit)) r 0
+        × Queued (now (queue .exit)) 0 × (r ≤ 65535) ⌝ }
+{
+    fill(queue, 65535);
+    let mut limit: usize = 0;
+    let mut last = Held {
+        node: 65535,
+        back: 0,
+        holder: 0,
+    };
+    let mut k = clocks.len();
+    while 0 < k {
+        k = k - 1;
+        let clock = clocks[k];
+        if clock == 65535 {
+            continue;
+        }
+        let v = wide(number_at(wanted, k));
+        last = holder_at(file, net, timing, v, clock, last);
+        let due = clock - last.back;
+        write_at(found, k, last.holder as u16);
+        enqueue(due, k, queue);
+        limit = until(limit, wide(due));
+    }
+    limit
+}
+
+// Runs on from the words of the first clock, and takes clock by clock what is due.
+fn take_later(
+    file: &[u8],
+    net: &[u16],
+    start: &[u16],
+    queue: &[u16],
+    limit: usize,
     found: &mut [u16],
 )
     ghost { Net }
-    requires { λ N. opened 𝓤 (now file) (now net) N (WellFormed N × Inside N × Complete inClock N (orderOf (now net)) × AllTraced N (now roots) (now passes)
-        × OfNodes N (now clocks) (now wanted) × (length (now clocks) ≤ length (now found)) × WordsAt N 0 (now start) × (length (now start) ≡ 1024)) }
+    requires { λ N. opened 𝓤 (now file) (now net) N (WellFormed N × Inside N × Complete inClock N (orderOf (now net)) × WordsAt N 0 (now start) × (length (now start) ≡ 1024)
+        × (length (now queue) ≡ 7168) × Queued (now queue) 0 × QueuedWithin (now queue) (length (now found)) × (1 ≤ limit) × (limit ≤ 65535)) }
+    ensures { λ N _. ⌜ ((clocks wanted before : List ℕ) → length clocks ≤ 3072 → Asked clocks (duesIn (now (queue .entry)))
+        → TakenBefore N clocks wanted (duesIn (now (queue .entry))) before (now (found .entry)) 1 → TakenBefore N clocks wanted (duesIn (now (queue .entry))) before (now (found .exit)) limit) ⌝ }
+{
+    let mut members = [0u16; 1024];
+    let count = row_members(file, net, Row::State, &mut members);
+    let mut words = [0u16; 1024];
+    copy(start, &mut words);
+    let mut t: usize = 1;
+    while t < limit {
+        next_clock(file, net, &members[..count], &mut words);
+        take_due(queue, t as u16, &words, found);
+        t = t + 1;
+    }
+}
+
+// Takes all words that are wanted, from the words of the first clock on. Place k wants the word of node wanted[k] at clock clocks[k], or none where that is 65,535.
+// The queue is a work area.
+pub fn first_words(
+    file: &[u8],
+    net: &[u16],
+    timing: &[u16],
+    start: &[u16],
+    clocks: &[u16],
+    wanted: &[u16],
+    queue: &mut [u16],
+    found: &mut [u16],
+)
+    ghost { Net }
+    requires { λ N. opened 𝓤 (now file) (now net) N (WellFormed N × Inside N × Complete inClock N (orderOf (now net)) × AllTraced N (rootsIn (now timing)) (passesIn (now timing))
+        × (length (now timing) ≡ 3072) × OfNodes N (now clocks) (now wanted) × (length (now clocks) ≤ 3072) × (length (now clocks) ≤ length (now found))
+        × WordsAt N 0 (now start) × (length (now start) ≡ 1024) × (length (now queue) ≡ 7168)) }
     ensures { λ N _. ⌜ Taken N (now (clocks .entry)) (now (wanted .entry)) (now (found .entry)) (now (found .exit)) ⌝ }
 {
-    let mut words = [0u16; 1024];
-    name_holders(file, net, roots, passes, clocks, wanted, found);
-    let limit = clocks_to_run(passes, clocks, wanted);
-    copy(start, &mut words);
-    let mut t: usize = 0;
-    while t < limit {
-        take_due(passes, clocks, wanted, t as u16, &words, found);
-        t = t + 1;
-        if t < limit {
-            next_clock(file, net, &mut words);
-        }
+    let limit = name_holders(file, net, timing, clocks, wanted, queue, found);
+    take_due(queue, 0, start, found);
+    if 1 < limit {
+        take_later(file, net, start, queue, limit, found);
     }
 }

@@ -1,7 +1,7 @@
 // The planned netlist as a circuit: the tables as they came, and each node as it is planned.
 pub mod reset;
 
-use areas::number_at;
+use areas::read_at;
 use circuit::Row;
 use circuit::async_rom;
 use circuit::clocked_rom;
@@ -32,11 +32,11 @@ ghost use Rattle.layout.specs.NewRow.{entryNode, registerNode, RowOf};
 
 // What planned node i reads at its p-th operand, where p is below n; else 0.
 fn read_by(plan: &[u16], i: usize, n: usize, p: usize) -> u16
-    requires { ⌜ (i < 1024) × (p < 3) ⌝ }
+    requires { ⌜ (i < 1024) × (p < 3) × (length (now plan) ≡ 7168) ⌝ }
     ensures { λ r. ⌜ r ≡ readBy (sourcesIn (now (plan .entry))) (3 * i) n p ⌝ }
 {
     if p < n {
-        number_at(plan, SOURCES + 3 * i + p)
+        read_at(plan, SOURCES + 3 * i + p)
     } else {
         0
     }
@@ -89,11 +89,11 @@ fn register_row(file: &[u8], net: &[u16], u: usize, word: u16, from: u16) -> Row
 fn planned_row(file: &[u8], net: &[u16], made: Plan, plan: &[u16], words: &[u16], i: usize) -> Row
     ghost { Net }
     requires { λ N. opened 𝓤 (now file) (now net) N (Planned N (ownersIn (now plan)) (now words) (sourcesIn (now plan)) (made .entries) (made .total)
-        × (made .total ≤ 1024) × (i < made .total)) }
+        × (made .total ≤ 1024) × (i < made .total) × (length (now plan) ≡ 7168) × (length (now words) ≡ 1024)) }
     ensures { λ N r. ⌜ RowOf r (newNode N i) ⌝ }
 {
-    let owner = wide(number_at(plan, i));
-    let word = number_at(words, i);
+    let owner = wide(read_at(plan, i));
+    let word = read_at(words, i);
     if i < made.entries {
         let n = source_count(file, net, owner);
         let first = read_by(plan, i, n, 0);
@@ -116,7 +116,7 @@ pub fn lay_circuit(
 )
     ghost { Net }
     requires { λ N. opened 𝓤 (now file) (now net) N (Planned N (ownersIn (now plan)) (now words) (sourcesIn (now plan)) (made .entries) (made .total)
-        × (made .total ≤ 1024) × (circuitWords ≤ length (now new))) }
+        × (made .total ≤ 1024) × (length (now plan) ≡ 7168) × (length (now words) ≡ 1024) × (circuitWords ≤ length (now new))) }
     ensures { λ N _. ⌜ (netOf (now (file .entry)) (now (new .exit)) ≡ rewritten N) × Circuit (now (file .entry)) (now (new .exit)) ⌝ }
 {
     copy_head(file, net, new);

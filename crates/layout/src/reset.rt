@@ -6,9 +6,6 @@ use plan::LATE;
 use plan::OWNERS;
 use plan::Plan;
 use plan::WORDS;
-use wires::PASSES;
-use wires::ROOTS;
-use wires::TIMING;
 ghost use mathlib.Core.Path.{_≡_};
 ghost use Prim.Native.Nat.{_≤_};
 ghost use lib.ListN.{length};
@@ -29,11 +26,12 @@ pub fn reset_words(
     start: &[u16],
     plan: &[u16],
     made: Plan,
+    queue: &mut [u16],
     words: &mut [u16],
 )
     ghost { Net }
     requires { λ N. opened 𝓤 (now file) (now net) N (Timed N (now timing) × (length (now timing) ≡ 3072) × Inside N × Complete inClock N (orderOf (now net))
-        × WordsAt N 0 (now start) × (length (now start) ≡ 1024) × (length (now plan) ≡ 7168) × (length (now words) ≡ 1024)
+        × WordsAt N 0 (now start) × (length (now start) ≡ 1024) × (length (now plan) ≡ 7168) × (length (now queue) ≡ 7168) × (length (now words) ≡ 1024)
         × PlanLaid N (now plan) (made .entries) (made .total) × (made .total ≤ 1024)) }
     ensures { λ N _. ⌜ Planned N (ownersIn (now (plan .entry))) (now (words .exit)) (sourcesIn (now (plan .entry))) (made .entries) (made .total) ⌝ }
 {
@@ -41,11 +39,11 @@ pub fn reset_words(
     first_words(
         file,
         net,
-        &timing[ROOTS..PASSES],
-        &timing[PASSES..TIMING],
+        timing,
         start,
         &plan[LATE..FIRSTS],
         &plan[OWNERS..WORDS],
+        queue,
         words,
     );
 }

@@ -85,7 +85,6 @@ module _ {N : Net} {leads roots passes ends froms clocks : List ℕ} (ready : Re
     planning l t = record {
       ready = ready;
       ends-in = λ k h g. w .wires k h g .end;
-      gaps = λ k h g. w .gaps k h g .end;
       copies-in = copies-made l t;
       firsts-in = placed .exact few .2;
       few = omega (arith, entries-are);
@@ -117,7 +116,7 @@ linked-first l l₀ {n} {count} same e h few =
     (linked-none (endsIn l) (clocksIn l) count few)
 
 module _ {N : Net} {timing : List ℕ} (wires : List ℕ) (ready : Timed N timing) (w : Entered N wires (3 * size N)) (long : length wires ≡ 10240) where
-  clocks-length : length (clocksIn wires) ≡ 3072
+  pub clocks-length : length (clocksIn wires) ≡ 3072
   clocks-length = section-length 6144 3072 wires (omega arith)
 
   pub clocks-of-nodes : OfNodes N (clocksIn wires) (fromsIn wires)

@@ -1,6 +1,6 @@
 -- The registers of the rewritten netlist, wire by wire, and what each reader reads, as four lists hold them. Assumes nothing.
 use mathlib.Core.Path.{_≡_}
-use mathlib.Core.Bool.{true, false, cond}
+use mathlib.Core.Bool.{true, cond}
 use mathlib.Core.List.{List, []}
 use Prim.Native.Nat.{ℕ, zero, suc, _+_, _-_, _*_, _/_, _%_, _≤_, _<_}
 use lib.ListN.{length, getD}
@@ -54,7 +54,6 @@ module _ (N : Net) where
   pub record Planning (leads roots passes ends copied firsts : List ℕ) : Type 0 where
     pub ready : Ready N leads roots passes
     pub ends-in : (k : ℕ) → k < 3 * size N → wireAt N k ≡ true → getD ends k 0 ≡ root N (sourceOf N k)
-    pub gaps : (k : ℕ) → k < 3 * size N → wireAt N k ≡ false → getD ends k 0 ≡ 65535
     pub copies-in : Copied N copied
     pub firsts-in : Firsts N firsts (size N)
     pub few : entryCount ≤ 1024

@@ -1,7 +1,7 @@
 -- The wires laid one after the other: places and numbers agree. Assumes nothing.
 use mathlib.Core.Path.{_≡_, refl, sym, ap, ap₂, subst, _∙_}
 use mathlib.Core.Logic.{⊎-elim}
-use mathlib.Core.Bool.{Bool, true, false, cond, true≢false}
+use mathlib.Core.Bool.{Bool, true, cond}
 use mathlib.Core.List.{List, [], _++_, append-nil}
 use Prim.Native.Nat.{ℕ, zero, suc, _+_, _-_, _*_, _/_, _%_, _≤_, _<_}
 use native.Mathlib.Nat.{le-refl}
@@ -9,11 +9,12 @@ use native.Mathlib.Omega.{arith}
 use lib.ListN.{length, getD, set, length-append, List·getD-append}
 use lib.Seq.{getD-append-add, getD-set-same, getD-set-other}
 use lib.Dec.{ltb}
-use borrow.Author.Tests.{lt-ltb, ltb-true}
+use borrow.Author.Tests.{lt-ltb, le-ltb}
 use Rattle.lists.specs.Lists.{has}
 use Rattle.lists.specs.Sections.{section-length, section-read}
-use Rattle.lists.specs.BelowLaws.{true-or-false, lt-or-le, lt-suc-split, length-listed, getD-listed}
+use Rattle.lists.specs.BelowLaws.{lt-or-le, lt-suc-split, length-listed, getD-listed}
 use Rattle.netlist.specs.Net.{Net, size, elementAt, source, operands, Sourced}
+use Rattle.netlist.specs.NodeLaws.{few-operands}
 use Rattle.behaviour.specs.Run.{zeroWord}
 use Rattle.retiming.specs.Leads.{lead}
 use Rattle.retiming.specs.Rewrite.{Place, Entry, Reg, root, countOn, copyOn, copies, stays, regsOn, entryPlaces, numberOf, along, timing, timingBy}
@@ -30,9 +31,8 @@ use Rattle.plan.specs.RegistersRow.{wires-next, reg-number, entry-number
 
 -- ---- one wire more
 
-module _ {N : Net} {leads roots passes ends copied firsts : List ℕ} (t : Planning N leads roots passes ends copied firsts) {owners words late sources : List ℕ} {m total : ℕ}
-    (d : Laid N owners words late sources m total) (h : m < 3 * entryCount N) where
-  -- its reader, and its number among the old wires
+module _ {N : Net} {owners words late sources : List ℕ} {m total : ℕ} (d : Laid N owners words late sources m total) (h : m < 3 * entryCount N) where
+  -- its reader
   abbrev i : ℕ
   i = m / 3
 
@@ -51,7 +51,30 @@ module _ {N : Net} {leads roots passes ends copied firsts : List ℕ} (t : Plann
   entry-here : entryAt N i ≡ Entry x w
   entry-here = d .held i (omega arith)
 
-  module _ {k : ℕ} (e : k ≡ 3 * x + p) where
+  -- there is none
+  module _ (none : operands (elementAt N x) ≤ p) where
+    same-wires : wiresBefore N (m + 1) ≡ wiresBefore N m
+    same-wires =
+        wires-next N m
+        ∙ ap (λ (pl : Place). wiresBefore N m ++ wireOf N pl p) entry-here
+        ∙ ap (λ (b : Bool). wiresBefore N m ++ cond b (regsOn N (timing N) (zeroWord N) x w p) []) (le-ltb p (operands (elementAt N x)) none)
+        ∙ append-nil (wiresBefore N m)
+
+    no-head : HeadHeld N owners words late sources m (entryAt N (m / 3)) (m % 3)
+    no-head = subst (λ (pl : Place). HeadHeld N owners words late sources m pl p) (sym entry-here) (λ o. absurd (omega arith))
+
+    laid-none : Laid N owners words late sources (m + 1) total
+    laid-none = record {
+      held = d .held;
+      count = d .count ∙ ap (λ (l : List Place). entryCount N + length l) (sym same-wires);
+      heads = λ j l. ⊎-elim (λ y. d .heads j y) (λ y. subst (λ (q : ℕ). HeadHeld N owners words late sources q (entryAt N (q / 3)) (q % 3)) (sym y) no-head) (lt-suc-split (let z : j < suc m = omega arith in z));
+      regs = λ j l k. subst (λ (q : List Place). RegHeld N owners words late sources (entryCount N + j) (getD q j noPlace)) (sym same-wires) (d .regs j (subst (λ (q : List Place). j < length q) same-wires l) k);
+      never = d .never;
+      ahead = d .ahead;
+    }
+
+  -- or there is one: its number among the old wires is k
+  module _ {leads roots passes ends copied firsts : List ℕ} (t : Planning N leads roots passes ends copied firsts) (operand-here : p < operands (elementAt N x)) {k : ℕ} (e : k ≡ 3 * x + p) where
     quotient : k / 3 ≡ x
     quotient = omega arith
 
@@ -61,190 +84,183 @@ module _ {N : Net} {leads roots passes ends copied firsts : List ℕ} (t : Plann
     pub wire-within : k < 3 * size N
     wire-within = omega (arith, reader-here .inside)
 
-    wire-test : wireAt N k ≡ ltb p (operands (elementAt N x))
+    a-wire : wireAt N k ≡ true
     unfolding wireAt
-    wire-test = ap₂ (λ (a b : ℕ). ltb a (wiresTo (elementAt N b))) rest quotient ∙ ap (ltb p) (wires-all (elementAt N x) (reader-here .other))
+    a-wire =
+        ap₂ (λ (a b : ℕ). ltb a (wiresTo (elementAt N b))) rest quotient ∙ ap (ltb p) (wires-all (elementAt N x) (reader-here .other)) ∙ lt-ltb p (operands (elementAt N x)) operand-here
 
     source-here : sourceOf N k ≡ source N x p
     source-here = ap₂ (source N) quotient rest
 
-    -- there is none
-    module _ (none : getD ends k 0 ≡ 65535) where
-      no-wire : wireAt N k ≡ false
-      unfolding Sourced
-      no-wire = ⊎-elim (λ y. absurd (clash y)) (λ y. y) (true-or-false (wireAt N k))
-        where
-          clash : wireAt N k ≡ true → ⊥
-          clash y =
-              let f = t .ready .formed in
-              let o : p < operands (elementAt N x) = ltb-true p (operands (elementAt N x)) (sym wire-test ∙ y) in
-              let s : root N (sourceOf N k) < size N = root-within N (f .sourced) (sourceOf N k) (subst (λ (v : ℕ). v < size N) (sym source-here) (f .sourced x p (reader-here .inside) o)) in
-              omega (arith, t .ends-in k wire-within y, f .fields .bounds .nodes)
+    pub source-inside : source N x p < size N
+    unfolding Sourced
+    source-inside = t .ready .formed .sourced x p (reader-here .inside) operand-here
 
-      same-wires : wiresBefore N (m + 1) ≡ wiresBefore N m
-      same-wires =
-          wires-next N m
-          ∙ ap (λ (pl : Place). wiresBefore N m ++ wireOf N pl p) entry-here
-          ∙ ap (λ (b : Bool). wiresBefore N m ++ cond b (regsOn N (timing N) (zeroWord N) x w p) []) (sym wire-test ∙ no-wire)
-          ∙ append-nil (wiresBefore N m)
+    pub end-is : getD ends k 0 ≡ root N (source N x p)
+    end-is = t .ends-in k wire-within a-wire ∙ ap (root N) source-here
 
-      no-head : HeadHeld N owners words late sources m (entryAt N (m / 3)) (m % 3)
-      no-head = subst (λ (pl : Place). HeadHeld N owners words late sources m pl p) (sym entry-here) (λ o. absurd (true≢false (sym (lt-ltb p (operands (elementAt N x)) o) ∙ sym wire-test ∙ no-wire)))
+    pub end-inside : root N (source N x p) < size N
+    end-inside = root-within N (t .ready .formed .sourced) (source N x p) source-inside
 
-      pub laid-none : Laid N owners words late sources (m + 1) total
-      laid-none = record {
-        held = d .held;
-        count = d .count ∙ ap (λ (l : List Place). entryCount N + length l) (sym same-wires);
-        heads = λ j l. ⊎-elim (λ y. d .heads j y) (λ y. subst (λ (q : ℕ). HeadHeld N owners words late sources q (entryAt N (q / 3)) (q % 3)) (sym y) no-head) (lt-suc-split (let z : j < suc m = omega arith in z));
-        regs = λ j l k. subst (λ (q : List Place). RegHeld N owners words late sources (entryCount N + j) (getD q j noPlace)) (sym same-wires) (d .regs j (subst (λ (q : List Place). j < length q) same-wires l) k);
-        never = d .never;
-        ahead = d .ahead;
-      }
+    copy-is : getD copied k 0 ≡ copyOn N (timing N) (zeroWord N) x p
+    copy-is = t .copies-in k wire-within a-wire ∙ ap₂ (copyOn N (timing N) (zeroWord N)) quotient rest
 
-    -- or there is one
-    module _ (one : (getD ends k 0 ≡ 65535) → ⊥) where
-      a-wire : wireAt N k ≡ true
-      a-wire = ⊎-elim (λ y. y) (λ y. absurd (one (t .gaps k wire-within y))) (true-or-false (wireAt N k))
+    -- the entry that it comes from
+    module _ {c first : ℕ} (ce : c ≡ getD copied k 0) (fe : first ≡ getD firsts (getD ends k 0) 0) where
+      pub first-is : first ≡ length (entriesBefore N (root N (source N x p)))
+      first-is = fe ∙ ap (λ (u : ℕ). getD firsts u 0) end-is ∙ t .firsts-in (root N (source N x p)) end-inside
 
-      operand-here : p < operands (elementAt N x)
-      operand-here = ltb-true p (operands (elementAt N x)) (sym wire-test ∙ a-wire)
+      pub first-few : first ≤ entryCount N
+      first-few = omega (arith, first-is, entries-few N (root N (source N x p)) (omega (arith, end-inside)))
 
-      pub source-inside : source N x p < size N
-      unfolding Sourced
-      source-inside = t .ready .formed .sourced x p (reader-here .inside) operand-here
+      module _ {r : ℕ} (f : Finds words c first (entryCount N) r) where
+        root-stays : stays N (timing N) (zeroWord N) (root N (source N x p)) ≡ true
+        unfolding Rooted timing timingBy
+        root-stays = stays-if N (timing N) (zeroWord N) (root N (source N x p)) (ringless-rooted N (t .ready .formed .sourced) (t .ready .formed .no-ring) (source N x p) source-inside) kept
+          where
+            kept : timing N .keeps (root N (source N x p)) ≡ true
+            kept = refl
 
-      pub end-is : getD ends k 0 ≡ root N (source N x p)
-      end-is = t .ends-in k wire-within a-wire ∙ ap (root N) source-here
+        from-is : r ≡ numberOf N (timing N) (zeroWord N) (Entry (root N (source N x p)) (copyOn N (timing N) (zeroWord N) x p))
+        from-is =
+            let ci : c ≡ copyOn N (timing N) (zeroWord N) x p = ce ∙ copy-is in
+            let has-it : has c (copies N (timing N) (zeroWord N) (root N (source N x p))) ≡ true = subst (λ (y : ℕ). has y (copies N (timing N) (zeroWord N) (root N (source N x p))) ≡ true) (sym ci) (copy-on N (timing N) (zeroWord N) x p (reader-here .inside) (stays-if N (timing N) (zeroWord N) x (reader-here .other) (reader-here .kept)) operand-here root-stays) in
+            entry-number N owners words (d .held) (root N (source N x p)) end-inside first-is has-it f
+            ∙ ap (λ (y : ℕ). numberOf N (timing N) (zeroWord N) (Entry (root N (source N x p)) y)) ci
 
-      pub end-inside : root N (source N x p) < size N
-      end-inside = root-within N (t .ready .formed .sourced) (source N x p) source-inside
+        -- its registers
+        module _ {count : ℕ} (ne : count ≡ countFrom N x (source N x p)) where
+          count-is : countOn N (timing N) (zeroWord N) x p ≡ count
+          count-is = count-from N x p ∙ sym ne
 
-      copy-is : getD copied k 0 ≡ copyOn N (timing N) (zeroWord N) x p
-      copy-is = t .copies-in k wire-within a-wire ∙ ap₂ (copyOn N (timing N) (zeroWord N)) quotient rest
+          here : List Place
+          here = regsOn N (timing N) (zeroWord N) x w p
 
-      -- the entry that it comes from
-      module _ {c first : ℕ} (ce : c ≡ getD copied k 0) (fe : first ≡ getD firsts (getD ends k 0) 0) where
-        pub first-is : first ≡ length (entriesBefore N (root N (source N x p)))
-        first-is = fe ∙ ap (λ (u : ℕ). getD firsts u 0) end-is ∙ t .firsts-in (root N (source N x p)) end-inside
+          more-wires : wiresBefore N (m + 1) ≡ wiresBefore N m ++ here
+          unfolding here
+          more-wires =
+              wires-next N m
+              ∙ ap (λ (pl : Place). wiresBefore N m ++ wireOf N pl p) entry-here
+              ∙ ap (λ (b : Bool). wiresBefore N m ++ cond b (regsOn N (timing N) (zeroWord N) x w p) []) (lt-ltb p (operands (elementAt N x)) operand-here)
 
-        pub first-few : first ≤ entryCount N
-        first-few = omega (arith, first-is, entries-few N (root N (source N x p)) (omega (arith, end-inside)))
+          here-length : length here ≡ count
+          unfolding here regsOn
+          here-length = length-listed (λ j. Reg x w p (countOn N (timing N) (zeroWord N) x p - suc j)) (countOn N (timing N) (zeroWord N) x p) ∙ count-is
 
-        module _ {r : ℕ} (f : Finds words c first (entryCount N) r) where
-          root-stays : stays N (timing N) (zeroWord N) (root N (source N x p)) ≡ true
-          unfolding Rooted timing timingBy
-          root-stays = stays-if N (timing N) (zeroWord N) (root N (source N x p)) (ringless-rooted N (t .ready .formed .sourced) (t .ready .formed .no-ring) (source N x p) source-inside) kept
-            where
-              kept : timing N .keeps (root N (source N x p)) ≡ true
-              kept = refl
+          more-length : length (wiresBefore N (m + 1)) ≡ length (wiresBefore N m) + count
+          more-length = ap length more-wires ∙ length-append (wiresBefore N m) here ∙ ap (λ (z : ℕ). length (wiresBefore N m) + z) here-length
 
-          from-is : r ≡ numberOf N (timing N) (zeroWord N) (Entry (root N (source N x p)) (copyOn N (timing N) (zeroWord N) x p))
-          from-is =
-              let ci : c ≡ copyOn N (timing N) (zeroWord N) x p = ce ∙ copy-is in
-              let has-it : has c (copies N (timing N) (zeroWord N) (root N (source N x p))) ≡ true = subst (λ (y : ℕ). has y (copies N (timing N) (zeroWord N) (root N (source N x p))) ≡ true) (sym ci) (copy-on N (timing N) (zeroWord N) x p (reader-here .inside) (stays-if N (timing N) (zeroWord N) x (reader-here .other) (reader-here .kept)) operand-here root-stays) in
-              entry-number N owners words (d .held) (root N (source N x p)) end-inside first-is has-it f
-              ∙ ap (λ (y : ℕ). numberOf N (timing N) (zeroWord N) (Entry (root N (source N x p)) y)) ci
+          reg-at : (j : ℕ) → j < count → getD (wiresBefore N (m + 1)) (length (wiresBefore N m) + j) noPlace ≡ Reg x w p (count - suc j)
+          unfolding here regsOn
+          reg-at j l =
+              ap (λ (q : List Place). getD q (length (wiresBefore N m) + j) noPlace) more-wires
+              ∙ getD-append-add (wiresBefore N m) here j noPlace
+              ∙ getD-listed (λ j. Reg x w p (countOn N (timing N) (zeroWord N) x p - suc j)) (countOn N (timing N) (zeroWord N) x p) j noPlace (omega (arith, count-is))
+              ∙ ap (λ (n : ℕ). Reg x w p (n - suc j)) count-is
 
-          -- its registers
-          module _ {count : ℕ} (ne : count ≡ countFrom N x (source N x p)) where
-            count-is : countOn N (timing N) (zeroWord N) x p ≡ count
-            count-is = count-from N x p ∙ sym ne
+          number-at : (j : ℕ) → j < count → numberOf N (timing N) (zeroWord N) (Reg x w p (count - suc j)) ≡ total + j
+          number-at j l =
+              ap (numberOf N (timing N) (zeroWord N)) (sym (reg-at j l))
+              ∙ reg-number N (m + 1) (length (wiresBefore N m) + j) (omega arith) (omega (arith, more-length))
+              ∙ omega (arith, d .count)
 
-            here : List Place
-            here = regsOn N (timing N) (zeroWord N) x w p
+          -- what stands j registers from the source reads
+          behind-is : (j : ℕ) → j ≤ count → behind r total j ≡ numberOf N (timing N) (zeroWord N) (along N (timing N) (zeroWord N) x w p (count - j))
+          behind-is zero l = from-is ∙ ap (numberOf N (timing N) (zeroWord N)) (sym (along-end N (timing N) (zeroWord N) x w p (count - 0) (omega (arith, count-is))))
+          behind-is (suc j) l =
+              sym (number-at j l) ∙ ap (numberOf N (timing N) (zeroWord N)) (sym (along-reg N (timing N) (zeroWord N) x w p (count - suc j) (omega (arith, count-is))))
 
-            more-wires : wiresBefore N (m + 1) ≡ wiresBefore N m ++ here
-            unfolding here
-            more-wires =
-                wires-next N m
-                ∙ ap (λ (pl : Place). wiresBefore N m ++ wireOf N pl p) entry-here
-                ∙ ap (λ (b : Bool). wiresBefore N m ++ cond b (regsOn N (timing N) (zeroWord N) x w p) []) (sym wire-test ∙ a-wire)
+          module _ {owners′ late′ put sources′ : List ℕ} {lead-x head : ℕ} (le : lead-x ≡ lead N x) (q : PutsRegisters (source N x p) r lead-x count total owners late sources owners′ late′ put)
+              (se : sources′ ≡ set put m head) (he : head ≡ behind r total count) (la : length put ≡ 3072) where
+            sources-same : (j : ℕ) → (j ≡ m → ⊥) → getD sources′ j 0 ≡ getD put j 0
+            sources-same j l = ap (λ (z : List ℕ). getD z j 0) se ∙ getD-set-other put m j head 0 l
 
-            here-length : length here ≡ count
-            unfolding here regsOn
-            here-length = length-listed (λ j. Reg x w p (countOn N (timing N) (zeroWord N) x p - suc j)) (countOn N (timing N) (zeroWord N) x p) ∙ count-is
+            held-still : Stored owners′ words (entryPlaces N (timing N) (zeroWord N))
+            held-still j l = d .held j l ∙ ap (λ (y : ℕ). Entry y (getD words j 0)) (sym (q .owners-before j (omega (arith, d .count))))
 
-            more-length : length (wiresBefore N (m + 1)) ≡ length (wiresBefore N m) + count
-            more-length = ap length more-wires ∙ length-append (wiresBefore N m) here ∙ ap (λ (z : ℕ). length (wiresBefore N m) + z) here-length
+            head-here : HeadHeld N owners′ words late′ sources′ m (entryAt N (m / 3)) (m % 3)
+            head-here =
+                subst (λ (pl : Place). HeadHeld N owners′ words late′ sources′ m pl p) (sym entry-here)
+                (λ o. ap (λ (z : List ℕ). getD z m 0) se ∙ getD-set-same put m head 0 (omega (arith, t .few)) ∙ he ∙ behind-is count (le-refl count)
+                ∙ ap (λ (j : ℕ). numberOf N (timing N) (zeroWord N) (along N (timing N) (zeroWord N) x w p j)) (omega arith))
 
-            reg-at : (j : ℕ) → j < count → getD (wiresBefore N (m + 1)) (length (wiresBefore N m) + j) noPlace ≡ Reg x w p (count - suc j)
-            unfolding here regsOn
-            reg-at j l =
-                ap (λ (q : List Place). getD q (length (wiresBefore N m) + j) noPlace) more-wires
-                ∙ getD-append-add (wiresBefore N m) here j noPlace
-                ∙ getD-listed (λ j. Reg x w p (countOn N (timing N) (zeroWord N) x p - suc j)) (countOn N (timing N) (zeroWord N) x p) j noPlace (omega (arith, count-is))
-                ∙ ap (λ (n : ℕ). Reg x w p (n - suc j)) count-is
+            head-still : (j : ℕ) → j < m → (pl : Place) (o : ℕ) → HeadHeld N owners words late sources j pl o → HeadHeld N owners′ words late′ sources′ j pl o
+            head-still j l (Entry y c) o g = λ z. sources-same j (λ e. omega arith) ∙ q .sources-before j (omega (arith, d .count)) ∙ g z
+            head-still j l (Reg y c o′ j′) o g = tt
 
-            number-at : (j : ℕ) → j < count → numberOf N (timing N) (zeroWord N) (Reg x w p (count - suc j)) ≡ total + j
-            number-at j l =
-                ap (numberOf N (timing N) (zeroWord N)) (sym (reg-at j l))
-                ∙ reg-number N (m + 1) (length (wiresBefore N m) + j) (omega arith) (omega (arith, more-length))
-                ∙ omega (arith, d .count)
+            reg-still : (j : ℕ) → j < length (wiresBefore N m) → (pl : Place) → RegHeld N owners words late sources (entryCount N + j) pl → RegHeld N owners′ words late′ sources′ (entryCount N + j) pl
+            reg-still j l (Entry y c) g = absurd g
+            reg-still j l (Reg y c o j′) (g, g′, g″) = (
+              q .owners-before (entryCount N + j) (omega (arith, d .count)) ∙ g,
+              q .late-before (entryCount N + j) (omega (arith, d .count)) ∙ g′,
+              sources-same (3 * (entryCount N + j)) (λ e. omega arith) ∙ q .sources-before (3 * (entryCount N + j)) (omega (arith, d .count)) ∙ g″,
+            )
 
-            -- what stands j registers from the source reads
-            behind-is : (j : ℕ) → j ≤ count → behind r total j ≡ numberOf N (timing N) (zeroWord N) (along N (timing N) (zeroWord N) x w p (count - j))
-            behind-is zero l = from-is ∙ ap (numberOf N (timing N) (zeroWord N)) (sym (along-end N (timing N) (zeroWord N) x w p (count - 0) (omega (arith, count-is))))
-            behind-is (suc j) l =
-                sym (number-at j l) ∙ ap (numberOf N (timing N) (zeroWord N)) (sym (along-reg N (timing N) (zeroWord N) x w p (count - suc j) (omega (arith, count-is))))
+            reg-new : (j : ℕ) → j < count → total + j < 1024 → RegHeld N owners′ words late′ sources′ (total + j) (Reg x w p (count - suc j))
+            reg-new j l b = (
+              q .owner j l b,
+              q .clock j l b ∙ omega (arith, le),
+              sources-same (3 * (total + j)) (λ e. omega (arith, d .count)) ∙ q .reads j l b ∙ behind-is j (omega arith)
+                  ∙ ap (λ (n : ℕ). numberOf N (timing N) (zeroWord N) (along N (timing N) (zeroWord N) x w p n)) (omega arith),
+            )
 
-            module _ {owners′ late′ put sources′ : List ℕ} {lead-x head : ℕ} (le : lead-x ≡ lead N x) (q : PutsRegisters (source N x p) r lead-x count total owners late sources owners′ late′ put)
-                (se : sources′ ≡ set put m head) (he : head ≡ behind r total count) (la : length put ≡ 3072) where
-              sources-same : (j : ℕ) → (j ≡ m → ⊥) → getD sources′ j 0 ≡ getD put j 0
-              sources-same j l = ap (λ (z : List ℕ). getD z j 0) se ∙ getD-set-other put m j head 0 l
+            regs-all : (j : ℕ) → j < length (wiresBefore N (m + 1)) → entryCount N + j < 1024 → RegHeld N owners′ words late′ sources′ (entryCount N + j) (getD (wiresBefore N (m + 1)) j noPlace)
+            regs-all j l b = ⊎-elim earlier later (lt-or-le j (length (wiresBefore N m)))
+              where
+                earlier : j < length (wiresBefore N m) → RegHeld N owners′ words late′ sources′ (entryCount N + j) (getD (wiresBefore N (m + 1)) j noPlace)
+                earlier y = subst (RegHeld N owners′ words late′ sources′ (entryCount N + j)) (sym (ap (λ (z : List Place). getD z j noPlace) more-wires ∙ List·getD-append (wiresBefore N m) here noPlace j y)) (reg-still j y (getD (wiresBefore N m) j noPlace) (d .regs j y b))
 
-              held-still : Stored owners′ words (entryPlaces N (timing N) (zeroWord N))
-              held-still j l = d .held j l ∙ ap (λ (y : ℕ). Entry y (getD words j 0)) (sym (q .owners-before j (omega (arith, d .count))))
+                later : length (wiresBefore N m) ≤ j → RegHeld N owners′ words late′ sources′ (entryCount N + j) (getD (wiresBefore N (m + 1)) j noPlace)
+                later y =
+                    let j′ : ℕ = j - length (wiresBefore N m) in
+                    let back : length (wiresBefore N m) + j′ ≡ j = omega arith in
+                    let l′ : j′ < count = omega (arith, more-length) in
+                    let place : total + j′ ≡ entryCount N + j = omega (arith, d .count) in
+                    subst (λ (n : ℕ). RegHeld N owners′ words late′ sources′ n (getD (wiresBefore N (m + 1)) j noPlace)) place
+                    (subst (RegHeld N owners′ words late′ sources′ (total + j′)) (sym (reg-at j′ l′) ∙ ap (λ (n : ℕ). getD (wiresBefore N (m + 1)) n noPlace) back) (reg-new j′ l′ (omega arith)))
 
-              head-here : HeadHeld N owners′ words late′ sources′ m (entryAt N (m / 3)) (m % 3)
-              head-here =
-                  subst (λ (pl : Place). HeadHeld N owners′ words late′ sources′ m pl p) (sym entry-here)
-                  (λ o. ap (λ (z : List ℕ). getD z m 0) se ∙ getD-set-same put m head 0 (omega (arith, t .few)) ∙ he ∙ behind-is count (le-refl count)
-                  ∙ ap (λ (j : ℕ). numberOf N (timing N) (zeroWord N) (along N (timing N) (zeroWord N) x w p j)) (omega arith))
+            pub laid-more : Laid N owners′ words late′ sources′ (m + 1) (total + count)
+            laid-more = record {
+              held = held-still;
+              count = omega (arith, d .count, more-length);
+              heads = λ j l. ⊎-elim (λ y. head-still j y (entryAt N (j / 3)) (j % 3) (d .heads j y)) (λ y. subst (λ (n : ℕ). HeadHeld N owners′ words late′ sources′ n (entryAt N (n / 3)) (n % 3)) (sym y) head-here) (lt-suc-split (let z : j < suc m = omega arith in z));
+              regs = regs-all;
+              never = λ j l. q .late-before j (omega (arith, d .count)) ∙ d .never j l;
+              ahead = λ j l b. q .late-after j l ∙ d .ahead j (omega arith) b;
+            }
 
-              head-still : (j : ℕ) → j < m → (pl : Place) (o : ℕ) → HeadHeld N owners words late sources j pl o → HeadHeld N owners′ words late′ sources′ j pl o
-              head-still j l (Entry y c) o g = λ z. sources-same j (λ e. omega arith) ∙ q .sources-before j (omega (arith, d .count)) ∙ g z
-              head-still j l (Reg y c o′ j′) o g = tt
+-- ---- the wires of one entry
 
-              reg-still : (j : ℕ) → j < length (wiresBefore N m) → (pl : Place) → RegHeld N owners words late sources (entryCount N + j) pl → RegHeld N owners′ words late′ sources′ (entryCount N + j) pl
-              reg-still j l (Entry y c) g = absurd g
-              reg-still j l (Reg y c o j′) (g, g′, g″) = (
-                q .owners-before (entryCount N + j) (omega (arith, d .count)) ∙ g,
-                q .late-before (entryCount N + j) (omega (arith, d .count)) ∙ g′,
-                sources-same (3 * (entryCount N + j)) (λ e. omega arith) ∙ q .sources-before (3 * (entryCount N + j)) (omega (arith, d .count)) ∙ g″,
-              )
+-- the same of equal numbers
+pub laid-at : {N : Net} {o w l s : List ℕ} {m n total : ℕ} → m ≡ n → Laid N o w l s m total → Laid N o w l s n total
+laid-at {N} {o} {w} {l} {s} {total = total} e d = subst (λ (i : ℕ). Laid N o w l s i total) e d
 
-              reg-new : (j : ℕ) → j < count → total + j < 1024 → RegHeld N owners′ words late′ sources′ (total + j) (Reg x w p (count - suc j))
-              reg-new j l b = (
-                q .owner j l b,
-                q .clock j l b ∙ omega (arith, le),
-                sources-same (3 * (total + j)) (λ e. omega (arith, d .count)) ∙ q .reads j l b ∙ behind-is j (omega arith)
-                    ∙ ap (λ (n : ℕ). numberOf N (timing N) (zeroWord N) (along N (timing N) (zeroWord N) x w p n)) (omega arith),
-              )
+module _ (N : Net) {e : ℕ} (h : e < entryCount N) where
+  -- the old node of an entry is the same whatever else is laid
+  pub owner-same : {o w l s o′ w′ l′ s′ : List ℕ} {m m′ total total′ : ℕ} → Laid N o w l s m total → Laid N o′ w′ l′ s′ m′ total′ → getD o e 0 ≡ getD o′ e 0
+  owner-same d d′ = let a = d .held e h in let b = d′ .held e h in cc (a, b)
 
-              regs-all : (j : ℕ) → j < length (wiresBefore N (m + 1)) → entryCount N + j < 1024 → RegHeld N owners′ words late′ sources′ (entryCount N + j) (getD (wiresBefore N (m + 1)) j noPlace)
-              regs-all j l b = ⊎-elim earlier later (lt-or-le j (length (wiresBefore N m)))
-                where
-                  earlier : j < length (wiresBefore N m) → RegHeld N owners′ words late′ sources′ (entryCount N + j) (getD (wiresBefore N (m + 1)) j noPlace)
-                  earlier y = subst (RegHeld N owners′ words late′ sources′ (entryCount N + j)) (sym (ap (λ (z : List Place). getD z j noPlace) more-wires ∙ List·getD-append (wiresBefore N m) here noPlace j y)) (reg-still j y (getD (wiresBefore N m) j noPlace) (d .regs j y b))
+  -- the old node as the code reads it
+  pub owner-is : (plan : List ℕ) {x : ℕ} → entryCount N ≤ 1024 → x ≡ getD plan e 0 → x ≡ getD (ownersIn plan) e 0
+  owner-is plan few q = q ∙ ap (λ (i : ℕ). getD plan i 0) (let z : e ≡ 0 + e = omega arith in z) ∙ sym (section-read 0 1024 plan e (omega arith))
 
-                  later : length (wiresBefore N m) ≤ j → RegHeld N owners′ words late′ sources′ (entryCount N + j) (getD (wiresBefore N (m + 1)) j noPlace)
-                  later y =
-                      let j′ : ℕ = j - length (wiresBefore N m) in
-                      let back : length (wiresBefore N m) + j′ ≡ j = omega arith in
-                      let l′ : j′ < count = omega (arith, more-length) in
-                      let place : total + j′ ≡ entryCount N + j = omega (arith, d .count) in
-                      subst (λ (n : ℕ). RegHeld N owners′ words late′ sources′ n (getD (wiresBefore N (m + 1)) j noPlace)) place
-                      (subst (RegHeld N owners′ words late′ sources′ (total + j′)) (sym (reg-at j′ l′) ∙ ap (λ (n : ℕ). getD (wiresBefore N (m + 1)) n noPlace) back) (reg-new j′ l′ (omega arith)))
+  module _ {owners words late sources : List ℕ} {total : ℕ} where
+    -- and it is a node
+    pub owner-inside : {x : ℕ} → Laid N owners words late sources (3 * e) total → x ≡ getD owners e 0 → x < size N
+    owner-inside d q = omega (arith, q, reader-stands N owners words (d .held) e h .inside)
 
-              pub laid-more : Laid N owners′ words late′ sources′ (m + 1) (total + count)
-              laid-more = record {
-                held = held-still;
-                count = omega (arith, d .count, more-length);
-                heads = λ j l. ⊎-elim (λ y. head-still j y (entryAt N (j / 3)) (j % 3) (d .heads j y)) (λ y. subst (λ (n : ℕ). HeadHeld N owners′ words late′ sources′ n (entryAt N (n / 3)) (n % 3)) (sym y) head-here) (lt-suc-split (let z : j < suc m = omega arith in z));
-                regs = regs-all;
-                never = λ j l. q .late-before j (omega (arith, d .count)) ∙ d .never j l;
-                ahead = λ j l b. q .late-after j l ∙ d .ahead j (omega arith) b;
-              }
+    -- from place q on, f places up to the next entry
+    rest-from : (f q : ℕ) → q + f ≡ 3 → operands (elementAt N (getD owners e 0)) ≤ q → Laid N owners words late sources (3 * e + q) total → Laid N owners words late sources (3 * e + 3) total
+    rest-from zero q s l d = laid-at (let z : 3 * e + q ≡ 3 * e + 3 = omega arith in z) d
+    rest-from (suc f) q s l d =
+        let a : e ≡ (3 * e + q) / 3 = omega arith in
+        let b : q ≡ (3 * e + q) % 3 = omega arith in
+        let none : operands (elementAt N (getD owners ((3 * e + q) / 3) 0)) ≤ (3 * e + q) % 3 = subst (λ (i : ℕ). operands (elementAt N (getD owners i 0)) ≤ (3 * e + q) % 3) a (subst (λ (i : ℕ). operands (elementAt N (getD owners e 0)) ≤ i) b l) in
+        rest-from f (q + 1) (omega arith) (omega arith) (laid-at (let z : 3 * e + q + 1 ≡ 3 * e + (q + 1) = omega arith in z) (laid-none d (omega arith) none))
+
+    -- its places after the last operand have no wire
+    pub laid-rest : {n : ℕ} → n ≡ operands (elementAt N (getD owners e 0)) → Laid N owners words late sources (3 * e + n) total → Laid N owners words late sources (3 * e + 3) total
+    laid-rest {n} q d = rest-from (3 - n) n (omega (arith, q, few-operands (elementAt N (getD owners e 0)))) (omega arith) d
 
 -- ---- the same in the areas, as the code reads and puts them
 
@@ -253,53 +269,90 @@ laid-as {N} {o} {o′} {w} {w′} {l} {l′} {s} {s′} {m} {total} a b c e d =
     subst (λ (y : List ℕ). Laid N y w′ l′ s′ m total) (sym a) (subst (λ (y : List ℕ). Laid N o y l′ s′ m total) (sym b)
     (subst (λ (y : List ℕ). Laid N o w y s′ m total) (sym c) (subst (λ (y : List ℕ). Laid N o w l y m total) (sym e) d)))
 
-module _ {N : Net} {timing copied : List ℕ} (wires plan : List ℕ) (t : Planning N timing (rootsIn timing) (passesIn timing) (endsIn wires) copied (firstsIn plan)) {m total : ℕ}
-    (d : Laid N (ownersIn plan) (wordsIn plan) (lateIn plan) (sourcesIn plan) m total) (h : m < 3 * entryCount N) {x : ℕ} (xe : x ≡ getD plan (m / 3) 0) where
+-- what is known of the wire to operand p of entry e once its reader x is read: its numbers, old and new, are in the areas, and so is where it comes from
+pub record WireRead (N : Net) (wires plan : List ℕ) (e p x : ℕ) : Type 0 where
+  pub inside : x < size N
+  pub few : p < 3
+  pub old : 3 * x + p < 3072
+  pub new : 3 * e + p < 3072
+  pub from : source N x p < size N
+  pub end : {u : ℕ} → u ≡ getD wires (0 + (3 * x + p)) 0 → u < size N
+  pub first : {u v : ℕ} → u ≡ getD wires (0 + (3 * x + p)) 0 → v ≡ getD plan (3072 + u) 0 → v ≤ entryCount N
+
+module _ {N : Net} {timing copied : List ℕ} (wires plan : List ℕ) (t : Planning N timing (rootsIn timing) (passesIn timing) (endsIn wires) copied (firstsIn plan)) {e p total entries : ℕ}
+    (d : Laid N (ownersIn plan) (wordsIn plan) (lateIn plan) (sourcesIn plan) (3 * e + p) total) (ne : entries ≡ entryCount N) (h : e < entries)
+    (o : p < operands (elementAt N (getD (ownersIn plan) e 0))) {x : ℕ} (xe : x ≡ getD plan e 0) where
+  -- its number among the new wires
+  abbrev m : ℕ
+  m = 3 * e + p
+
+  -- a node has at most three operands, so the wire is one of its entry's three
+  operand-few : p < 3
+  operand-few = omega (arith, o, few-operands (elementAt N (getD (ownersIn plan) e 0)))
+
+  entry-is : e ≡ m / 3
+  entry-is = omega (arith, operand-few)
+
+  operand-is : p ≡ m % 3
+  operand-is = omega (arith, operand-few)
+
+  wire-few : m < 3 * entryCount N
+  wire-few = omega (arith, operand-few)
+
   reader-is : x ≡ getD (ownersIn plan) (m / 3) 0
-  reader-is = xe ∙ ap (λ (i : ℕ). getD plan i 0) (let e : m / 3 ≡ 0 + m / 3 = omega arith in e) ∙ sym (section-read 0 1024 plan (m / 3) (omega (arith, t .few)))
+  reader-is = owner-is N (omega arith) plan (t .few) xe ∙ ap (λ (i : ℕ). getD (ownersIn plan) i 0) entry-is
 
-  pub reader-inside : x < size N
-  reader-inside = omega (arith, reader-is, reader-here t d h .inside)
+  reader-inside : x < size N
+  reader-inside = omega (arith, reader-is, reader-here d wire-few .inside)
 
-  wire-is : 3 * x + m % 3 ≡ 3 * getD (ownersIn plan) (m / 3) 0 + m % 3
-  wire-is = ap (λ (v : ℕ). 3 * v + m % 3) reader-is
+  wire-is : 3 * x + p ≡ 3 * getD (ownersIn plan) (m / 3) 0 + m % 3
+  wire-is = ap₂ (λ (v q : ℕ). 3 * v + q) reader-is operand-is
 
-  module _ {end : ℕ} (ee : end ≡ getD wires (0 + (3 * x + m % 3)) 0) where
-    end-read : end ≡ getD (endsIn wires) (3 * x + m % 3) 0
-    end-read = ee ∙ sym (section-read 0 3072 wires (3 * x + m % 3) (omega (arith, wire-within t d h wire-is, t .ready .formed .fields .bounds .nodes)))
+  there : m % 3 < operands (elementAt N (getD (ownersIn plan) (m / 3) 0))
+  there = subst (λ (q : ℕ). q < operands (elementAt N (getD (ownersIn plan) (m / 3) 0))) operand-is (subst (λ (i : ℕ). p < operands (elementAt N (getD (ownersIn plan) i 0))) entry-is o)
 
-    pub none-laid : end ≡ 65535 → Laid N (ownersIn plan) (wordsIn plan) (lateIn plan) (sourcesIn plan) (m + 1) total
-    none-laid e = laid-none t d h wire-is (sym end-read ∙ e)
+  wire-small : 3 * x + p < 3072
+  wire-small = omega (arith, wire-within d wire-few t there wire-is, t .ready .formed .fields .bounds .nodes)
 
-    module _ (one : end ≡ 65535 → ⊥) {s : ℕ} (se : s ≡ source N x (m % 3)) where
-      there : getD (endsIn wires) (3 * x + m % 3) 0 ≡ 65535 → ⊥
-      there e = one (end-read ∙ e)
+  source-is : source N x p ≡ source N (getD (ownersIn plan) (m / 3) 0) (m % 3)
+  source-is = ap₂ (source N) reader-is operand-is
 
-      source-is : s ≡ source N (getD (ownersIn plan) (m / 3) 0) (m % 3)
-      source-is = se ∙ ap (λ (v : ℕ). source N v (m % 3)) reader-is
+  module _ {end : ℕ} (ee : end ≡ getD wires (0 + (3 * x + p)) 0) where
+    end-read : end ≡ getD (endsIn wires) (3 * x + p) 0
+    end-read = ee ∙ sym (section-read 0 3072 wires (3 * x + p) wire-small)
 
-      pub source-within : s < size N
-      source-within = omega (arith, source-is, source-inside t d h wire-is there)
+    -- the root of the wire is a node, so its first entry can be read
+    end-within : end < size N
+    end-within = omega (arith, end-read, end-is d wire-few t there wire-is, end-inside d wire-few t there wire-is)
 
-      module _ {c first u : ℕ} (ce : c ≡ getD copied (3 * x + m % 3) 0) (ue : u ≡ end) (fe : first ≡ getD plan (3072 + u) 0) where
-        first-read : first ≡ getD (firstsIn plan) (getD (endsIn wires) (3 * x + m % 3) 0) 0
-        first-read = fe
-            ∙ sym (section-read 3072 1024 plan u (omega (arith, end-read, end-is t d h wire-is there, end-inside t d h wire-is there, t .ready .formed .fields .bounds .nodes)))
-            ∙ ap (λ (i : ℕ). getD (firstsIn plan) i 0) (ue ∙ end-read)
+    first-read : {first : ℕ} → first ≡ getD plan (3072 + end) 0 → first ≡ getD (firstsIn plan) (getD (endsIn wires) (3 * x + p) 0) 0
+    first-read fe =
+        fe
+        ∙ sym (section-read 3072 1024 plan end (omega (arith, end-within, t .ready .formed .fields .bounds .nodes)))
+        ∙ ap (λ (i : ℕ). getD (firstsIn plan) i 0) end-read
 
-        pub first-small : first ≤ entryCount N
-        first-small = first-few t d h wire-is there ce first-read
+  pub wire-read : WireRead N wires plan e p x
+  wire-read = record {
+    inside = reader-inside;
+    few = operand-few;
+    old = wire-small;
+    new = omega (arith, wire-few, t .few);
+    from = omega (arith, source-is, source-inside d wire-few t there wire-is);
+    end = λ ee. end-within ee;
+    first = λ ee fe. first-few d wire-few t there wire-is refl (first-read ee fe);
+  }
 
-        pub wire-laid : {entries r count lead-x head : ℕ} (put last : List ℕ) → entries ≡ entryCount N → Finds (wordsIn plan) c first entries r → count ≡ countFrom N x s → lead-x ≡ getD timing x 0
-            → PutsRegisters s r lead-x count total (ownersIn plan) (lateIn plan) (sourcesIn plan) (ownersIn put) (lateIn put) (sourcesIn put) × (wordsIn put ≡ wordsIn plan) × (firstsIn put ≡ firstsIn plan)
-            → length put ≡ 7168 → last ≡ set put (4096 + m) head → head ≡ behind r total count
-            → Laid N (ownersIn last) (wordsIn last) (lateIn last) (sourcesIn last) (m + 1) (total + count) × (firstsIn last ≡ firstsIn plan)
-        wire-laid {entries} {r} {count} {lead-x} {head} put last ne f ke le (q, we, be) long pe he =
-            let z = source-put put last m head (omega (arith, t .few)) pe in
-            let found : Finds (wordsIn plan) c first (entryCount N) r = subst (λ (n : ℕ). Finds (wordsIn plan) c first n r) ne f in
-            let counted : count ≡ countFrom N (getD (ownersIn plan) (m / 3) 0) (source N (getD (ownersIn plan) (m / 3) 0) (m % 3)) = ke ∙ ap₂ (countFrom N) reader-is source-is in
-            let leads : lead-x ≡ lead N (getD (ownersIn plan) (m / 3) 0) = le ∙ t .ready .leads-in x reader-inside ∙ ap (lead N) reader-is in
-            (laid-as (z .1) (z .2 ∙ we) (z .3) refl (laid-more t d h wire-is there ce first-read found counted leads (puts-as source-is q) (z .0) he (section-length 4096 3072 put (omega arith))), z .4 ∙ be)
+  pub wire-laid : {end s c first r count lead-x head : ℕ} (put last : List ℕ) → end ≡ getD wires (0 + (3 * x + p)) 0 → s ≡ source N x p → c ≡ getD copied (3 * x + p) 0 → first ≡ getD plan (3072 + end) 0
+      → Finds (wordsIn plan) c first entries r → count ≡ countFrom N x s → lead-x ≡ getD timing x 0
+      → PutsRegisters s r lead-x count total (ownersIn plan) (lateIn plan) (sourcesIn plan) (ownersIn put) (lateIn put) (sourcesIn put) × (wordsIn put ≡ wordsIn plan) × (firstsIn put ≡ firstsIn plan)
+      → length put ≡ 7168 → last ≡ set put (4096 + (3 * e + p)) head → head ≡ behind r total count
+      → Laid N (ownersIn last) (wordsIn last) (lateIn last) (sourcesIn last) (3 * e + p + 1) (total + count) × (firstsIn last ≡ firstsIn plan)
+  wire-laid {s = s} {c} {first} {r} {count} {lead-x} {head} put last ee se ce fe f ke le (q, we, be) long pe he =
+      let z = source-put put last m head (wire-read .new) pe in
+      let found : Finds (wordsIn plan) c first (entryCount N) r = subst (λ (n : ℕ). Finds (wordsIn plan) c first n r) ne f in
+      let counted : count ≡ countFrom N (getD (ownersIn plan) (m / 3) 0) (source N (getD (ownersIn plan) (m / 3) 0) (m % 3)) = ke ∙ ap₂ (countFrom N) reader-is (se ∙ source-is) in
+      let leads : lead-x ≡ lead N (getD (ownersIn plan) (m / 3) 0) = le ∙ t .ready .leads-in x reader-inside ∙ ap (lead N) reader-is in
+      (laid-as (z .1) (z .2 ∙ we) (z .3) refl (laid-more d wire-few t there wire-is ce (first-read ee fe) found counted leads (puts-as (se ∙ source-is) q) (z .0) he (section-length 4096 3072 put (omega arith))), z .4 ∙ be)
 
 -- ---- all wires
 
@@ -313,6 +366,10 @@ module _ (N : Net) {owners words late sources : List ℕ} {m total : ℕ} (d : L
     where
       longer : length (wiresBefore N m) ≤ length (wiresBefore N (3 * entryCount N))
       longer = concat-longer (λ j. wireOf N (entryAt N (j / 3)) (j % 3)) m (3 * entryCount N) h
+
+  -- where there are too many, nothing is said of the next wires
+  pub laid-stop : (k : ℕ) → m ≤ 3 * entryCount N → 1024 < total → (total ≤ 1024 → Laid N owners words late sources k total) × (1024 < total → AllLaid N owners words late sources total)
+  laid-stop k h o = (λ g. absurd (omega arith), laid-over h)
 
   pub laid-all : m ≡ 3 * entryCount N → AllLaid N owners words late sources total
   laid-all e = record { exact = λ o. subst (λ (i : ℕ). Laid N owners words late sources i total) e d; over = λ o. omega (arith, d .count, ap (λ (i : ℕ). length (wiresBefore N i)) e) }

@@ -1,8 +1,8 @@
 // The nodes of the rewritten netlist that are no registers, in the file's order: an old node that is no register once, a ROM once for each different reset word.
 use super::FIRSTS;
 use super::WORDS;
-use areas::number_at;
-use areas::put_number;
+use areas::read_at;
+use areas::write_at;
 use circuit::node_count;
 use circuit::register;
 use circuit::wide;
@@ -21,12 +21,12 @@ ghost use Rattle.plan.specs.Entries.{Finds, Placing, Adds, Wants, AddsAl
 
 // The first place from one on that has the word; where none up to another has it, that one.
 pub fn find_from(plan: &[u16], c: u16, from: usize, to: usize) -> usize
-    requires { ⌜ (from ≤ to) × (to ≤ 1024) ⌝ }
+    requires { ⌜ (from ≤ to) × (to ≤ 1024) × (length (now plan) ≡ 7168) ⌝ }
     ensures { λ r. ⌜ Finds (wordsIn (now (plan .entry))) c from to r ⌝ }
 {
     let mut i = from;
     while i < to {
-        if number_at(plan, WORDS + i) == c {
+        if read_at(plan, WORDS + i) == c {
             return i;
         }
         i = i + 1;
@@ -42,8 +42,8 @@ fn add_entry(u: u16, word: u16, count: usize, plan: &mut [u16]) -> usize
         × (lateIn (now (plan .exit)) ≡ lateIn (now (plan .entry))) × (firstsIn (now (plan .exit)) ≡ firstsIn (now (plan .entry))) ⌝ }
 {
     if count < 1024 {
-        put_number(plan, count, u);
-        put_number(plan, WORDS + count, word);
+        write_at(plan, count, u);
+        write_at(plan, WORDS + count, word);
     }
     count + 1
 }
@@ -74,7 +74,8 @@ fn add_copies(
     first: usize,
     plan: &mut [u16],
 ) -> usize
-    requires { ⌜ (first ≤ 1024) × (count ≤ 3072) × (length (now wires) ≡ 10240) × (length (now plan) ≡ 7168) × Chained (endsIn (now wires)) (clocksIn (now wires)) count u head ⌝ }
+    requires { ⌜ (first ≤ 1024) × (count ≤ 3072) × (length (now wires) ≡ 10240) × (length (now copied) ≡ 3072) × (length (now plan) ≡ 7168)
+        × Chained (endsIn (now wires)) (clocksIn (now wires)) count u head ⌝ }
     ensures { λ r. ⌜ AddsAll u first count r (endsIn (now (wires .entry))) (now (copied .entry)) (ownersIn (now (plan .entry))) (wordsIn (now (plan .entry)))
         (ownersIn (now (plan .exit))) (wordsIn (now (plan .exit)))
         × (lateIn (now (plan .exit)) ≡ lateIn (now (plan .entry))) × (firstsIn (now (plan .exit)) ≡ firstsIn (now (plan .entry))) ⌝ }
@@ -82,8 +83,8 @@ fn add_copies(
     let mut next = first;
     let mut k = head;
     while k < count {
-        next = add_copy(u, number_at(copied, k), first, next, plan);
-        k = wide(number_at(wires, CLOCKS + k));
+        next = add_copy(u, read_at(copied, k), first, next, plan);
+        k = wide(read_at(wires, CLOCKS + k));
     }
     next
 }
@@ -99,14 +100,14 @@ fn place(
     plan: &mut [u16],
 ) -> usize
     ghost { Net }
-    requires { λ N. opened 𝓤 (now file) (now net) N ((u < size N) × (count ≤ 1024) × (length (now wires) ≡ 10240) × (length (now plan) ≡ 7168)
+    requires { λ N. opened 𝓤 (now file) (now net) N ((u < size N) × (count ≤ 1024) × (length (now wires) ≡ 10240) × (length (now copied) ≡ 3072) × (length (now plan) ≡ 7168)
         × Wants N (endsIn (now wires)) (now copied) × RomsLinked N (endsIn (now wires)) (headsIn (now wires)) (clocksIn (now wires))
         × Placing (ownersIn (now plan)) (wordsIn (now plan)) (entriesBefore N u) count) }
     ensures { λ N r. ⌜ Placing (ownersIn (now (plan .exit))) (wordsIn (now (plan .exit))) (entriesBefore N (u + 1)) r × (r ≤ 4096)
         × (lateIn (now (plan .exit)) ≡ lateIn (now (plan .entry))) × (firstsIn (now (plan .exit)) ≡ firstsIn (now (plan .entry))) ⌝ }
 {
     if memory_bit(file, net, u) == 1 {
-        let head = wide(number_at(wires, HEADS + u));
+        let head = wide(read_at(wires, HEADS + u));
         let all = 3 * node_count(file, net);
         return add_copies(wires, copied, all, u as u16, head, count, plan);
     }
@@ -125,7 +126,7 @@ pub fn place_entries(
     plan: &mut [u16],
 ) -> usize
     ghost { Net }
-    requires { λ N. opened 𝓤 (now file) (now net) N ((length (now wires) ≡ 10240) × (length (now plan) ≡ 7168)
+    requires { λ N. opened 𝓤 (now file) (now net) N ((length (now wires) ≡ 10240) × (length (now copied) ≡ 3072) × (length (now plan) ≡ 7168)
         × Wants N (endsIn (now wires)) (now copied) × RomsLinked N (endsIn (now wires)) (headsIn (now wires)) (clocksIn (now wires))) }
     ensures { λ N r. ⌜ AllPlaced N (ownersIn (now (plan .exit))) (wordsIn (now (plan .exit))) (firstsIn (now (plan .exit))) r
         × (lateIn (now (plan .exit)) ≡ lateIn (now (plan .entry))) ⌝ }
@@ -137,7 +138,7 @@ pub fn place_entries(
         if 1024 < count {
             return count;
         }
-        put_number(plan, FIRSTS + u, count as u16);
+        write_at(plan, FIRSTS + u, count as u16);
         count = place(file, net, wires, copied, u, count, plan);
         u = u + 1;
     }

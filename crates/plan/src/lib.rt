@@ -7,9 +7,6 @@ use circuit::node_count;
 use entries::place_entries;
 use first_clocks::first_words;
 use registers::lay_wires;
-use wires::PASSES;
-use wires::ROOTS;
-use wires::TIMING;
 use wiring::CLOCKS;
 use wiring::FROMS;
 use wiring::HEADS;
@@ -54,21 +51,23 @@ fn copied_words(
     timing: &[u16],
     start: &[u16],
     wires: &[u16],
+    queue: &mut [u16],
     copied: &mut [u16],
 )
     ghost { Net }
     requires { λ N. opened 𝓤 (now file) (now net) N (Timed N (now timing) × (length (now timing) ≡ 3072) × Inside N × Complete inClock N (orderOf (now net))
-        × WordsAt N 0 (now start) × (length (now start) ≡ 1024) × (length (now wires) ≡ 10240) × Entered N (now wires) (3 * size N) × (length (now copied) ≡ 3072)) }
+        × WordsAt N 0 (now start) × (length (now start) ≡ 1024) × (length (now wires) ≡ 10240) × Entered N (now wires) (3 * size N) × (length (now queue) ≡ 7168)
+        × (length (now copied) ≡ 3072)) }
     ensures { λ N _. ⌜ Taken N (clocksIn (now (wires .entry))) (fromsIn (now (wires .entry))) (now (copied .entry)) (now (copied .exit)) ⌝ }
 {
     first_words(
         file,
         net,
-        &timing[ROOTS..PASSES],
-        &timing[PASSES..TIMING],
+        timing,
         start,
         &wires[CLOCKS..HEADS],
         &wires[FROMS..CLOCKS],
+        queue,
         copied,
     );
 }
@@ -87,11 +86,12 @@ pub fn make_plan(
         × WordsAt N 0 (now start) × (length (now start) ≡ 1024) × (length (now wires) ≡ 10240) × (length (now plan) ≡ 7168)) }
     ensures { λ N r. ⌜ PlanLaid N (now (plan .exit)) (r .entries) (r .total) ⌝ }
 {
-    fill(plan, 65535);
     fill(wires, 65535);
     let mut copied = [0u16; 3072];
     enter_wires(file, net, timing, wires);
-    copied_words(file, net, timing, start, wires, &mut copied);
+    // Until there is a plan, its area is the queue's.
+    copied_words(file, net, timing, start, wires, plan, &mut copied);
+    fill(plan, 65535);
     // No clock of a wire is asked for any more: the links take their place.
     link_wires(wires, 3 * node_count(file, net));
     let entries = place_entries(file, net, wires, &copied, plan);

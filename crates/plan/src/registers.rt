@@ -4,16 +4,17 @@ use super::LATE;
 use super::Plan;
 use super::SOURCES;
 use super::entries::find_from;
-use areas::number_at;
-use areas::put_number;
+use areas::read_at;
+use areas::write_at;
+use circuit::source_count;
 use circuit::source_of;
 use circuit::wide;
 use wiring::ENDS;
 use wiring::count_on;
 ghost use mathlib.Core.Path.{_≡_};
 ghost use Prim.Native.Nat.{_+_, _*_, _<_, _≤_};
-ghost use lib.ListN.{length, set};
-ghost use Rattle.netlist.specs.Net.{Net};
+ghost use lib.ListN.{length, getD, set};
+ghost use Rattle.netlist.specs.Net.{Net, elementAt, operands};
 ghost use Rattle.circuit.specs.Opened.{opened};
 ghost use Rattle.wires.specs.Traced.{rootsIn, passesIn};
 ghost use Rattle.wiring.specs.Wiring.{endsIn};
@@ -28,9 +29,9 @@ fn put_register(r: usize, s: u16, clock: u16, before: u16, plan: &mut [u16])
         × (wordsIn (now (plan .exit)) ≡ wordsIn (now (plan .entry))) × (firstsIn (now (plan .exit)) ≡ firstsIn (now (plan .entry))) ⌝ }
 {
     if r < 1024 {
-        put_number(plan, r, s);
-        put_number(plan, LATE + r, clock);
-        put_number(plan, SOURCES + 3 * r, before);
+        write_at(plan, r, s);
+        write_at(plan, LATE + r, clock);
+        write_at(plan, SOURCES + 3 * r, before);
     }
 }
 
@@ -63,7 +64,13 @@ fn last_of(from: u16, start: usize, count: usize) -> u16
     }
 }
 
-// Lays wire m, the one to operand m % 3 of the entry m / 3, where there is one; gives the number of nodes. In the old netlist its number is k.
+// Operand p of entry e.
+struct Operand {
+    e: usize,
+    p: usize,
+}
+
+// Lays the wire to an operand of an entry; gives the number of nodes. In the old netlist its number is k.
 fn lay_wire(
     file: &[u8],
     net: &[u16],
@@ -71,33 +78,71 @@ fn lay_wire(
     wires: &[u16],
     copied: &[u16],
     made: Plan,
-    m: usize,
+    to: Operand,
     plan: &mut [u16],
 ) -> usize
     ghost { Net }
     requires { λ N. opened 𝓤 (now file) (now net) N (Planning N (now timing) (rootsIn (now timing)) (passesIn (now timing)) (endsIn (now wires)) (now copied) (firstsIn (now plan))
-        × (made .entries ≡ entryCount N) × (m < 3 * made .entries) × (made .total ≤ 1024) × (length (now plan) ≡ 7168)
-        × Laid N (ownersIn (now plan)) (wordsIn (now plan)) (lateIn (now plan)) (sourcesIn (now plan)) m (made .total)) }
-    ensures { λ N r. ⌜ Laid N (ownersIn (now (plan .exit))) (wordsIn (now (plan .exit))) (lateIn (now (plan .exit))) (sourcesIn (now (plan .exit))) (m + 1) r × (r ≤ 3073)
+        × (length (now timing) ≡ 3072) × (length (now wires) ≡ 10240) × (length (now copied) ≡ 3072) × (length (now plan) ≡ 7168)
+        × (made .entries ≡ entryCount N) × (made .total ≤ 1024)
+        × (to .e < made .entries) × (to .p < operands (elementAt N (getD (ownersIn (now plan)) (to .e) 0)))
+        × Laid N (ownersIn (now plan)) (wordsIn (now plan)) (lateIn (now plan)) (sourcesIn (now plan)) (3 * to .e + to .p) (made .total)) }
+    ensures { λ N r. ⌜ Laid N (ownersIn (now (plan .exit))) (wordsIn (now (plan .exit))) (lateIn (now (plan .exit))) (sourcesIn (now (plan .exit))) (3 * to .e + to .p + 1) r × (r ≤ 3073)
         × (firstsIn (now (plan .exit)) ≡ firstsIn (now (plan .entry))) ⌝ }
 {
     let entries = made.entries;
     let total = made.total;
-    let x = wide(number_at(plan, m / 3));
-    let k = 3 * x + m % 3;
-    let end = number_at(wires, ENDS + k);
-    if end == 65535 {
-        return total;
-    }
-    let s = source_of(file, net, x, m % 3);
-    let c = number_at(copied, k);
-    let first = wide(number_at(plan, FIRSTS + wide(end)));
+    let e = to.e;
+    let p = to.p;
+    let x = wide(read_at(plan, e));
+    let k = 3 * x + p;
+    let end = wide(read_at(wires, ENDS + k));
+    let s = source_of(file, net, x, p);
+    let c = read_at(copied, k);
+    let first = wide(read_at(plan, FIRSTS + end));
     let from = find_from(plan, c, first, entries) as u16;
     let count = count_on(file, net, timing, x, s);
-    let lead = wide(number_at(timing, x));
+    let lead = wide(read_at(timing, x));
     put_registers(s as u16, from, lead, count, total, plan);
-    put_number(plan, SOURCES + m, last_of(from, total, count));
+    write_at(plan, SOURCES + (3 * e + p), last_of(from, total, count));
     total + count
+}
+
+// Lays the wires of entry e; gives the number of nodes. It gives up where there are more than 1,024.
+fn lay_entry(
+    file: &[u8],
+    net: &[u16],
+    timing: &[u16],
+    wires: &[u16],
+    copied: &[u16],
+    made: Plan,
+    e: usize,
+    plan: &mut [u16],
+) -> usize
+    ghost { Net }
+    requires { λ N. opened 𝓤 (now file) (now net) N (Planning N (now timing) (rootsIn (now timing)) (passesIn (now timing)) (endsIn (now wires)) (now copied) (firstsIn (now plan))
+        × (length (now timing) ≡ 3072) × (length (now wires) ≡ 10240) × (length (now copied) ≡ 3072) × (length (now plan) ≡ 7168)
+        × (made .entries ≡ entryCount N) × (made .total ≤ 1024) × (e < made .entries)
+        × Laid N (ownersIn (now plan)) (wordsIn (now plan)) (lateIn (now plan)) (sourcesIn (now plan)) (3 * e) (made .total)) }
+    ensures { λ N r. ⌜ (r ≤ 1024 → Laid N (ownersIn (now (plan .exit))) (wordsIn (now (plan .exit))) (lateIn (now (plan .exit))) (sourcesIn (now (plan .exit))) (3 * e + 3) r)
+        × (1024 < r → AllLaid N (ownersIn (now (plan .exit))) (wordsIn (now (plan .exit))) (lateIn (now (plan .exit))) (sourcesIn (now (plan .exit))) r)
+        × (firstsIn (now (plan .exit)) ≡ firstsIn (now (plan .entry))) ⌝ }
+{
+    let entries = made.entries;
+    let mut total = made.total;
+    let x = wide(read_at(plan, e));
+    let n = source_count(file, net, x);
+    let mut p: usize = 0;
+    while p < n {
+        if 1024 < total {
+            return total;
+        }
+        let so_far = Plan { entries, total };
+        let to = Operand { e, p };
+        total = lay_wire(file, net, timing, wires, copied, so_far, to, plan);
+        p = p + 1;
+    }
+    total
 }
 
 // Lays all wires; gives the number of nodes. It gives up where there are more than 1,024.
@@ -112,19 +157,20 @@ pub fn lay_wires(
 ) -> usize
     ghost { Net }
     requires { λ N. opened 𝓤 (now file) (now net) N (Planning N (now timing) (rootsIn (now timing)) (passesIn (now timing)) (endsIn (now wires)) (now copied) (firstsIn (now plan))
+        × (length (now timing) ≡ 3072) × (length (now wires) ≡ 10240) × (length (now copied) ≡ 3072)
         × (entries ≡ entryCount N) × (length (now plan) ≡ 7168)
         × Laid N (ownersIn (now plan)) (wordsIn (now plan)) (lateIn (now plan)) (sourcesIn (now plan)) 0 entries) }
     ensures { λ N r. ⌜ AllLaid N (ownersIn (now (plan .exit))) (wordsIn (now (plan .exit))) (lateIn (now (plan .exit))) (sourcesIn (now (plan .exit))) r ⌝ }
 {
     let mut total = entries;
-    let mut m: usize = 0;
-    while m < 3 * entries {
+    let mut e: usize = 0;
+    while e < entries {
         if 1024 < total {
             return total;
         }
         let made = Plan { entries, total };
-        total = lay_wire(file, net, timing, wires, copied, made, m, plan);
-        m = m + 1;
+        total = lay_entry(file, net, timing, wires, copied, made, e, plan);
+        e = e + 1;
     }
     total
 }

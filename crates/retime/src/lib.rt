@@ -2,6 +2,7 @@
 
 use checks::open_file;
 use circuit::WORDS;
+use first_clocks::QUEUE;
 use first_clocks::first_clock;
 use layout::lay_circuit;
 use layout::reset::reset_words;
@@ -43,14 +44,23 @@ fn lay_timed(file: &[u8], net: &[u16], timing: &[u16], new: &mut [u16]) -> Verdi
     let mut start = [0u16; 1024];
     first_clock(file, net, &mut start);
     let mut plan = [0u16; PLAN];
-    // Until the circuit is laid, its area is the wires'.
+    // Until the circuit is laid, its area is the wires', and then the queue's.
     let made = make_plan(file, net, timing, &start, &mut new[..WIRES], &mut plan);
     let total = made.total;
     if 1024 < total {
         return Verdict::Refuses(13, 65535);
     }
     let mut words = [0u16; 1024];
-    reset_words(file, net, timing, &start, &plan, made, &mut words);
+    reset_words(
+        file,
+        net,
+        timing,
+        &start,
+        &plan,
+        made,
+        &mut new[..QUEUE],
+        &mut words,
+    );
     lay_circuit(file, net, made, &plan, &words, new);
     Verdict::Fine
 }

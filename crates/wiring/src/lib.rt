@@ -1,8 +1,8 @@
 // The wires of the netlist in a row, three to a node, each with its root, its source, and the clock of the reset word that a ROM at its root takes from it.
 pub mod links;
 
-use areas::number_at;
-use areas::put_number;
+use areas::read_at;
+use areas::write_at;
 use circuit::async_rom;
 use circuit::clocked_rom;
 use circuit::node_count;
@@ -51,15 +51,15 @@ pub fn memory_bit(file: &[u8], net: &[u16], v: usize) -> usize
 // How many registers stand as nodes of their own on the wire from s to x, in the rewritten netlist.
 pub fn count_on(file: &[u8], net: &[u16], timing: &[u16], x: usize, s: usize) -> usize
     ghost { Net }
-    requires { λ N. opened 𝓤 (now file) (now net) N (Timed N (now timing) × (x < size N) × (s < size N)) }
+    requires { λ N. opened 𝓤 (now file) (now net) N (Timed N (now timing) × (length (now timing) ≡ 3072) × (x < size N) × (s < size N)) }
     ensures { λ N r. ⌜ (r ≡ countFrom N x s) × (r ≤ 2049) ⌝ }
 {
-    let u = wide(number_at(timing, ROOTS + s));
-    let before = wide(number_at(timing, PASSES + s))
+    let u = wide(read_at(timing, ROOTS + s));
+    let before = wide(read_at(timing, PASSES + s))
         + clocked_rom(file, net, u)
-        + wide(number_at(timing, u));
+        + wide(read_at(timing, u));
     minus(
-        minus(before, wide(number_at(timing, x))),
+        minus(before, wide(read_at(timing, x))),
         memory_bit(file, net, u),
     )
 }
@@ -91,24 +91,24 @@ fn rom_clock(file: &[u8], net: &[u16], u: usize, clock: u16) -> u16
 // Enters the wire to operand p of x.
 fn enter_wire(file: &[u8], net: &[u16], timing: &[u16], x: usize, p: usize, wires: &mut [u16])
     ghost { Net }
-    requires { λ N. opened 𝓤 (now file) (now net) N (Timed N (now timing) × (x < size N) × (p < 3) × (p < wiresTo (elementAt N x))
+    requires { λ N. opened 𝓤 (now file) (now net) N (Timed N (now timing) × (length (now timing) ≡ 3072) × (x < size N) × (p < 3) × (p < wiresTo (elementAt N x))
         × (length (now wires) ≡ 10240) × Entered N (now wires) (3 * x + p)) }
     ensures { λ N _. ⌜ Entered N (now (wires .exit)) (3 * x + p + 1) × (headsIn (now (wires .exit)) ≡ headsIn (now (wires .entry))) ⌝ }
 {
     let k = 3 * x + p;
     let s = source_of(file, net, x, p);
-    let end = number_at(timing, ROOTS + s);
-    let clock = count_on(file, net, timing, x, s) + wide(number_at(timing, x));
+    let end = read_at(timing, ROOTS + s);
+    let clock = count_on(file, net, timing, x, s) + wide(read_at(timing, x));
     let taken = rom_clock(file, net, wide(end), clock as u16);
-    put_number(wires, ENDS + k, end);
-    put_number(wires, FROMS + k, s as u16);
-    put_number(wires, CLOCKS + k, taken);
+    write_at(wires, ENDS + k, end);
+    write_at(wires, FROMS + k, s as u16);
+    write_at(wires, CLOCKS + k, taken);
 }
 
 // Enters the wires that end at x.
 fn enter_node(file: &[u8], net: &[u16], timing: &[u16], x: usize, wires: &mut [u16])
     ghost { Net }
-    requires { λ N. opened 𝓤 (now file) (now net) N (Timed N (now timing) × (x < size N)
+    requires { λ N. opened 𝓤 (now file) (now net) N (Timed N (now timing) × (length (now timing) ≡ 3072) × (x < size N)
         × (length (now wires) ≡ 10240) × Entered N (now wires) (3 * x)) }
     ensures { λ N _. ⌜ Entered N (now (wires .exit)) (3 * x + 3) × (headsIn (now (wires .exit)) ≡ headsIn (now (wires .entry))) ⌝ }
 {
@@ -123,7 +123,7 @@ fn enter_node(file: &[u8], net: &[u16], timing: &[u16], x: usize, wires: &mut [u
 // Enters all wires.
 pub fn enter_wires(file: &[u8], net: &[u16], timing: &[u16], wires: &mut [u16])
     ghost { Net }
-    requires { λ N. opened 𝓤 (now file) (now net) N (Timed N (now timing)
+    requires { λ N. opened 𝓤 (now file) (now net) N (Timed N (now timing) × (length (now timing) ≡ 3072)
         × (length (now wires) ≡ 10240) × Entered N (now wires) 0) }
     ensures { λ N _. ⌜ Entered N (now (wires .exit)) (3 * size N) × (headsIn (now (wires .exit)) ≡ headsIn (now (wires .entry))) ⌝ }
 {

@@ -4,6 +4,8 @@ use super::ENDS;
 use super::HEADS;
 use areas::number_at;
 use areas::put_number;
+use areas::read_at;
+use areas::write_at;
 use circuit::wide;
 ghost use mathlib.Core.Path.{_≡_};
 ghost use mathlib.Core.List.{List};
@@ -19,9 +21,9 @@ fn link(wires: &mut [u16], count: usize, k: usize)
         → LinkedFrom (endsIn (now (wires .entry))) clocks count (headsIn (now (wires .exit))) (clocksIn (now (wires .exit))) k)
         × (endsIn (now (wires .exit)) ≡ endsIn (now (wires .entry))) ⌝ }
 {
-    if number_at(wires, CLOCKS + k) < 65535 {
-        let u = wide(number_at(wires, ENDS + k));
-        put_number(wires, CLOCKS + k, number_at(wires, HEADS + u));
+    if read_at(wires, CLOCKS + k) < 65535 {
+        let u = wide(read_at(wires, ENDS + k));
+        write_at(wires, CLOCKS + k, number_at(wires, HEADS + u));
         put_number(wires, HEADS + u, k as u16);
     }
 }

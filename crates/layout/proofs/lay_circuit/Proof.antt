@@ -18,13 +18,13 @@ abbrev μ-loop : tie.MeasureT-loop
 μ-loop file net made plan words new₀ total i₀ new i = total - i
 
 copy-head-requires : tie.Need-copy-head-requires Inv-loop μ-loop
-copy-head-requires c κs = let p = c .before .before .before .before .before .before .pre in (p .0, p .1 .2)
+copy-head-requires c κs = let p = c .before .before .before .before .before .before .pre in (p .0, p .1 .4)
 
 loop-holds : tie.Need-loop-holds Inv-loop μ-loop
 loop-holds c = let a = c .before .before .before .before .before .before .before .before .before .args in (refl, building-none (rewritten (netOf (a .file .now) (a .net .now)) .nodes) (c .before .before .copy-head .ensures))
 
 planned-row-requires : tie.Need-planned-row-requires Inv-loop μ-loop
-planned-row-requires c κs = let p = c .before .before .before .before .before .before .before .before .before .before .before .before .pre in (p .0, (p .1 .0, p .1 .1, c .before .loop-test .taken))
+planned-row-requires c κs = let p = c .before .before .before .before .before .before .before .before .before .before .before .before .pre in (p .0, (p .1 .0, p .1 .1, c .before .loop-test .taken, p .1 .2, p .1 .3))
 
 push-row-requires : tie.Need-push-row-requires Inv-loop μ-loop
 push-row-requires c κs = let p = c .before .before .before .before .before .before .before .before .before .before .before .before .before .pre in let k = c .before .before .before .loop .inv .1 in (k .built .formed, building-size k, omega (arith, c .before .before .loop-test .taken, p .1 .1), c .planned-row .ensures .0)

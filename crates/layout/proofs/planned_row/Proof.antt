@@ -9,17 +9,17 @@ use borrow.Author.Needs.{needs}
 use Rattle.layout.proofs.planned_row.Statement.{statement}
 use Rattle.layout.proofs.planned_row.Tie as tie
 
-number-at-requires : tie.Need-number-at-requires
-number-at-requires c κs = search needs
+read-at-requires : tie.Need-read-at-requires
+read-at-requires c κs = search needs
 
 wide-requires : tie.Need-wide-requires
 wide-requires c κs = search needs
 
-number-at-requires-2 : tie.Need-number-at-requires-2
-number-at-requires-2 c κs = search needs
+read-at-requires-2 : tie.Need-read-at-requires-2
+read-at-requires-2 c κs = search needs
 
 source-count-requires : tie.Need-source-count-requires
-source-count-requires c κs = let p = c .before .before .before .before .before .before .before .before .before .pre in (p .0, omega (arith, c .before .before .before .wide .ensures .0 ∙ c .before .before .before .before .number-at .ensures, owner-read (c .before .before .before .before .before .before .before .before .before .args .plan .now) (c .before .before .before .before .before .before .before .before .before .args .i) (omega (arith, p .1 .1, p .1 .2)), p .1 .0 .inside (c .before .before .before .before .before .before .before .before .before .args .i) (p .1 .2)))
+source-count-requires c κs = let p = c .before .before .before .before .before .before .before .before .before .pre in (p .0, omega (arith, c .before .before .before .wide .ensures .0 ∙ c .before .before .before .before .read-at .ensures, owner-read (c .before .before .before .before .before .before .before .before .before .args .plan .now) (c .before .before .before .before .before .before .before .before .before .args .i) (omega (arith, p .1 .1, p .1 .2)), p .1 .0 .inside (c .before .before .before .before .before .before .before .before .before .args .i) (p .1 .2)))
 
 read-by-requires : tie.Need-read-by-requires
 read-by-requires c κs = search needs
@@ -31,27 +31,27 @@ read-by-requires-3 : tie.Need-read-by-requires-3
 read-by-requires-3 c κs = search needs
 
 entry-row-requires : tie.Need-entry-row-requires
-entry-row-requires c κs = let p = c .before .before .before .before .before .before .before .before .before .before .before .before .before .pre in (p .0, omega (arith, c .before .before .before .before .before .before .before .wide .ensures .0 ∙ c .before .before .before .before .before .before .before .before .number-at .ensures, owner-read (c .before .before .before .before .before .before .before .before .before .before .before .before .before .args .plan .now) (c .before .before .before .before .before .before .before .before .before .before .before .before .before .args .i) (omega (arith, p .1 .1, p .1 .2)), p .1 .0 .inside (c .before .before .before .before .before .before .before .before .before .before .before .before .before .args .i) (p .1 .2)))
+entry-row-requires c κs = let p = c .before .before .before .before .before .before .before .before .before .before .before .before .before .pre in (p .0, omega (arith, c .before .before .before .before .before .before .before .wide .ensures .0 ∙ c .before .before .before .before .before .before .before .before .read-at .ensures, owner-read (c .before .before .before .before .before .before .before .before .before .before .before .before .before .args .plan .now) (c .before .before .before .before .before .before .before .before .before .before .before .before .before .args .i) (omega (arith, p .1 .1, p .1 .2)), p .1 .0 .inside (c .before .before .before .before .before .before .before .before .before .before .before .before .before .args .i) (p .1 .2)))
 
 read-by-requires-4 : tie.Need-read-by-requires-4
 read-by-requires-4 c κs = search needs
 
 register-row-requires : tie.Need-register-row-requires
-register-row-requires c κs = let p = c .before .before .before .before .before .before .before .before .before .before .pre in (p .0, omega (arith, c .before .before .before .before .wide .ensures .0 ∙ c .before .before .before .before .before .number-at .ensures, owner-read (c .before .before .before .before .before .before .before .before .before .before .args .plan .now) (c .before .before .before .before .before .before .before .before .before .before .args .i) (omega (arith, p .1 .1, p .1 .2)), p .1 .0 .inside (c .before .before .before .before .before .before .before .before .before .before .args .i) (p .1 .2)))
+register-row-requires c κs = let p = c .before .before .before .before .before .before .before .before .before .before .pre in (p .0, omega (arith, c .before .before .before .before .wide .ensures .0 ∙ c .before .before .before .before .before .read-at .ensures, owner-read (c .before .before .before .before .before .before .before .before .before .before .args .plan .now) (c .before .before .before .before .before .before .before .before .before .before .args .i) (omega (arith, p .1 .1, p .1 .2)), p .1 .0 .inside (c .before .before .before .before .before .before .before .before .before .before .args .i) (p .1 .2)))
 
 returns : tie.Need-returns
-returns c = let a = c .before .before .before .before .before .before .before .before .before .before .before .before .before .before .args in let p = c .before .before .before .before .before .before .before .before .before .before .before .before .before .before .pre in let n = c .before .before .before .before .source-count .ensures .0 in row-as (c .entry-row .ensures) (entry-made (p .1 .0) (a .i) (c .before .before .before .before .before .if1 .taken) (c .before .before .before .before .before .before .before .before .wide .ensures .0 ∙ c .before .before .before .before .before .before .before .before .before .number-at .ensures ∙ owner-read (a .plan .now) (a .i) (omega (arith, p .1 .1, p .1 .2))) (c .before .before .before .before .before .before .before .number-at2 .ensures) (c .before .before .before .read-by .ensures ∙ ap (λ (k : ℕ). readBy (sourcesIn (a .plan .now)) (3 * a .i) k 0) n) (c .before .before .read-by2 .ensures ∙ ap (λ (k : ℕ). readBy (sourcesIn (a .plan .now)) (3 * a .i) k 1) n) (c .before .read-by3 .ensures ∙ ap (λ (k : ℕ). readBy (sourcesIn (a .plan .now)) (3 * a .i) k 2) n))
+returns c = let a = c .before .before .before .before .before .before .before .before .before .before .before .before .before .before .args in let p = c .before .before .before .before .before .before .before .before .before .before .before .before .before .before .pre in let n = c .before .before .before .before .source-count .ensures .0 in row-as (c .entry-row .ensures) (entry-made (p .1 .0) (a .i) (c .before .before .before .before .before .if1 .taken) (c .before .before .before .before .before .before .before .before .wide .ensures .0 ∙ c .before .before .before .before .before .before .before .before .before .read-at .ensures ∙ owner-read (a .plan .now) (a .i) (omega (arith, p .1 .1, p .1 .2))) (c .before .before .before .before .before .before .before .read-at2 .ensures) (c .before .before .before .read-by .ensures ∙ ap (λ (k : ℕ). readBy (sourcesIn (a .plan .now)) (3 * a .i) k 0) n) (c .before .before .read-by2 .ensures ∙ ap (λ (k : ℕ). readBy (sourcesIn (a .plan .now)) (3 * a .i) k 1) n) (c .before .read-by3 .ensures ∙ ap (λ (k : ℕ). readBy (sourcesIn (a .plan .now)) (3 * a .i) k 2) n))
 
 returns-2 : tie.Need-returns-2
-returns-2 c = let a = c .before .before .before .before .before .before .before .before .before .before .before .args in let p = c .before .before .before .before .before .before .before .before .before .before .before .pre in row-as (c .register-row .ensures) (register-made (p .1 .0) (a .i) (c .before .before .if1 .left) (p .1 .2) (c .before .before .before .before .before .wide .ensures .0 ∙ c .before .before .before .before .before .before .number-at .ensures ∙ owner-read (a .plan .now) (a .i) (omega (arith, p .1 .1, p .1 .2))) (c .before .before .before .before .number-at2 .ensures) (c .before .read-by4 .ensures ∙ first-read (sourcesIn (a .plan .now)) (3 * a .i)))
+returns-2 c = let a = c .before .before .before .before .before .before .before .before .before .before .before .args in let p = c .before .before .before .before .before .before .before .before .before .before .before .pre in row-as (c .register-row .ensures) (register-made (p .1 .0) (a .i) (c .before .before .if1 .left) (p .1 .2) (c .before .before .before .before .before .wide .ensures .0 ∙ c .before .before .before .before .before .before .read-at .ensures ∙ owner-read (a .plan .now) (a .i) (omega (arith, p .1 .1, p .1 .2))) (c .before .before .before .before .read-at2 .ensures) (c .before .read-by4 .ensures ∙ first-read (sourcesIn (a .plan .now)) (3 * a .i)))
 
 pub planned-row-spec : {M : Type 1} → statement M
 planned-row-spec =
     tie.close
     (tie.spec
-    number-at-requires
+    read-at-requires
     wide-requires
-    number-at-requires-2
+    read-at-requires-2
     source-count-requires
     read-by-requires
     read-by-requires-2

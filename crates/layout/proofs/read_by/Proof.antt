@@ -10,21 +10,21 @@ use Rattle.layout.specs.PlannedNode.{source-read}
 use Rattle.layout.proofs.read_by.Statement.{statement}
 use Rattle.layout.proofs.read_by.Tie as tie
 
-mul-number-at : tie.Need-mul-number-at
-mul-number-at c = search needs
+mul-read-at : tie.Need-mul-read-at
+mul-read-at c = search needs
 
-add-number-at : tie.Need-add-number-at
-add-number-at c = search needs
+add-read-at : tie.Need-add-read-at
+add-read-at c = search needs
 
-add-number-at-2 : tie.Need-add-number-at-2
-add-number-at-2 c = search needs
+add-read-at-2 : tie.Need-add-read-at-2
+add-read-at-2 c = search needs
 
-number-at-requires : tie.Need-number-at-requires
-number-at-requires c κs = search needs
+read-at-requires : tie.Need-read-at-requires
+read-at-requires c κs = search needs
 
 returns : tie.Need-returns
 returns c = let a = c .before .before .before .args in let h = c .before .before .before .pre in
-    c .number-at .ensures ∙ source-read (a .plan .now) (a .i) (a .p) (h .0) (h .1)
+    c .read-at .ensures ∙ source-read (a .plan .now) (a .i) (a .p) (h .0) (h .1)
     ∙ sym (ap (λ (b : Bool). cond b (getD (sourcesIn (a .plan .now)) (3 * a .i + a .p) 0) 0) (lt-ltb (a .p) (a .n) (c .before .if1 .taken)))
 
 returns-2 : tie.Need-returns-2
@@ -35,9 +35,9 @@ pub read-by-spec : {M : Type 1} → statement M
 read-by-spec =
     tie.close
     (tie.spec
-    mul-number-at
-    add-number-at
-    add-number-at-2
-    number-at-requires
+    mul-read-at
+    add-read-at
+    add-read-at-2
+    read-at-requires
     returns
     returns-2)

@@ -1,58 +1,52 @@
 -- The words are those that the wires' area asks for.
+use mathlib.Core.Path.{sym, _∙_}
+use Prim.Native.Nat.{_≤_}
+use native.Mathlib.Nat.{le-of-eq}
 use native.Mathlib.Omega.{arith}
-use borrow.Author.Needs.{needs}
-use Rattle.lists.specs.Sections.{section-length}
-use Rattle.plan.specs.PlanLaws.{clocks-of-nodes}
+use Rattle.plan.specs.PlanLaws.{clocks-length, clocks-of-nodes}
 use Rattle.plan.proofs.copied_words.Statement.{statement}
 use Rattle.plan.proofs.copied_words.Tie as tie
 
+-- the sections begin before they end
+clocks-end : 6144 ≤ 9216
+clocks-end = omega arith
+
+froms-end : 3072 ≤ 6144
+froms-end = omega arith
+
 sub-first-words : tie.Need-sub-first-words
-sub-first-words c = search needs
+sub-first-words c = clocks-end
 
 part-first-words-start : tie.Need-part-first-words-start
-part-first-words-start c = search needs
+part-first-words-start c = clocks-end
 
 part-first-words-end : tie.Need-part-first-words-end
-part-first-words-end c = search needs
+part-first-words-end c = omega (arith, c .before .before .before .before .before .before .before .pre .1 .6)
 
 sub-first-words-2 : tie.Need-sub-first-words-2
-sub-first-words-2 c = search needs
+sub-first-words-2 c = froms-end
 
 part-first-words-start-2 : tie.Need-part-first-words-start-2
-part-first-words-start-2 c = search needs
+part-first-words-start-2 c = froms-end
 
 part-first-words-end-2 : tie.Need-part-first-words-end-2
-part-first-words-end-2 c = search needs
-
-sub-first-words-3 : tie.Need-sub-first-words-3
-sub-first-words-3 c = search needs
-
-part-first-words-start-3 : tie.Need-part-first-words-start-3
-part-first-words-start-3 c = search needs
-
-part-first-words-end-3 : tie.Need-part-first-words-end-3
-part-first-words-end-3 c = search needs
-
-sub-first-words-4 : tie.Need-sub-first-words-4
-sub-first-words-4 c = search needs
-
-part-first-words-start-4 : tie.Need-part-first-words-start-4
-part-first-words-start-4 c = search needs
-
-part-first-words-end-4 : tie.Need-part-first-words-end-4
-part-first-words-end-4 c = search needs
+part-first-words-end-2 c = omega (arith, c .before .before .before .before .before .before .before .before .pre .1 .6)
 
 first-words-requires : tie.Need-first-words-requires
 first-words-requires c κs =
     let a = c .before .before .before .before .before .before .before .before .before .before .before .args in
     let t = c .before .before .before .before .before .before .before .before .before .before .before .pre .1 in
-    (c .before .before .before .before .before .before .before .before .before .before .before .pre .0, (t .0 .formed, t .2, t .3, t .0 .traced, clocks-of-nodes (a .wires .now) (t .0) (t .7) (t .6), omega (arith, t .8, section-length 6144 3072 (a .wires .now) (omega (arith, t .6))), t .4, t .5))
+    let n = clocks-length (a .wires .now) (t .0) (t .7) (t .6) in
+    (c .before .before .before .before .before .before .before .before .before .before .before .pre .0, (t .0 .formed, t .2, t .3, t .0 .traced, t .1, clocks-of-nodes (a .wires .now) (t .0) (t .7) (t .6), le-of-eq n, le-of-eq (n ∙ sym (t .9)), t .4, t .5, t .8))
 
 same-length : tie.Need-same-length
-same-length c = search needs
+same-length c = c .before .before .before .before .first-words .kept .1 .1 .1 .1 .1 .1 .0
+
+same-length-2 : tie.Need-same-length-2
+same-length-2 c = c .before .before .before .before .first-words .kept .1 .1 .1 .1 .1 .1 .1 .0
 
 returns : tie.Need-returns
-returns c = search needs
+returns c = c .before .before .before .before .first-words .ensures
 
 pub copied-words-spec : {M : Type 1} → statement M
 copied-words-spec =
@@ -64,12 +58,7 @@ copied-words-spec =
     sub-first-words-2
     part-first-words-start-2
     part-first-words-end-2
-    sub-first-words-3
-    part-first-words-start-3
-    part-first-words-end-3
-    sub-first-words-4
-    part-first-words-start-4
-    part-first-words-end-4
     first-words-requires
     same-length
+    same-length-2
     returns)

@@ -1,8 +1,9 @@
 -- 13 by the plan, else laid.
 use mathlib.Core.Path.{sym, _∙_}
+use mathlib.Core.List.{_++_}
 use Prim.Native.Nat.{ℕ}
 use native.Mathlib.Omega.{arith}
-use lib.ListN.{length-replicate}
+use lib.ListN.{drop, length-replicate}
 use lib.Seq.{length-front, length-take-le}
 use Rattle.netlist.specs.VerdictLaws.{refuses-not}
 use Rattle.circuit.specs.Circuit.{netOf}
@@ -49,11 +50,39 @@ slice-aggregate-reset-words c = search needs
 slice-aggregate-reset-words-2 : tie.Need-slice-aggregate-reset-words-2
 slice-aggregate-reset-words-2 c = search needs
 
+slice-relend-prefix-reset-words : tie.Need-slice-relend-prefix-reset-words
+slice-relend-prefix-reset-words c = search needs
+
 slice-aggregate-reset-words-3 : tie.Need-slice-aggregate-reset-words-3
-slice-aggregate-reset-words-3 c = search needs
+slice-aggregate-reset-words-3 c =
+    let l = c .before .before .before .before .before .before .before .before .before .before .before .before .before .before .before .before .before .before .args .new .now in
+    let m = c .before .before .before .before .before .before .before .make-plan in
+    sym (length-take-le 7168 (m .last .1 .1 .1 .1 .0 ++ drop 10240 l) (omega (arith, length-front l (m .last .1 .1 .1 .1 .0) 10240 (m .kept .1 .1 .1 .1 .0), c .before .before .before .before .before .before .before .before .before .before .before .before .before .before .before .before .before .before .pre .1 .4)))
+
+slice-aggregate-reset-words-4 : tie.Need-slice-aggregate-reset-words-4
+slice-aggregate-reset-words-4 c = search needs
 
 reset-words-requires : tie.Need-reset-words-requires
-reset-words-requires c κs = search needs
+reset-words-requires c κs =
+    let l = c .before .before .before .before .before .before .before .before .before .before .before .before .before .before .before .before .before .before .before .args .new .now in
+    let p = c .before .before .before .before .before .before .before .before .before .before .before .before .before .before .before .before .before .before .before .pre in
+    let f = c .before .before .before .before .before .before .before .before .before .before .before .before .before .first-clock in
+    let m = c .before .before .before .before .before .before .before .before .make-plan in (
+      p .0,
+      (
+        p .1 .0,
+        p .1 .1,
+        p .1 .2,
+        p .1 .3,
+        f .ensures,
+        f .kept .1 .1 .0 ∙ length-replicate {A = ℕ} 1024 0,
+        m .kept .1 .1 .1 .1 .1 .0 ∙ length-replicate {A = ℕ} 7168 0,
+        length-take-le 7168 (m .last .1 .1 .1 .1 .0 ++ drop 10240 l) (omega (arith, length-front l (m .last .1 .1 .1 .1 .0) 10240 (m .kept .1 .1 .1 .1 .0), p .1 .4)),
+        length-replicate {A = ℕ} 1024 0,
+        m .ensures,
+        omega (arith, c .before .before .before .before .if1 .left),
+      ),
+    )
 
 slice-aggregate-lay-circuit : tie.Need-slice-aggregate-lay-circuit
 slice-aggregate-lay-circuit c = search needs
@@ -63,18 +92,21 @@ slice-aggregate-lay-circuit-2 c = search needs
 
 lay-circuit-requires : tie.Need-lay-circuit-requires
 lay-circuit-requires c κs =
-    let p = c .before .before .before .before .before .before .before .before .before .before .before .before .before .before .before .before .before .before .before .before .before .before .before .pre in
-    let m = c .before .before .before .before .before .before .before .before .before .before .before .before .make-plan in
-    let n = length-front (c .before .before .before .before .before .before .before .before .before .before .before .before .before .before .before .before .before .before .before .before .before .before .before .args .new .now) (m .last .1 .1 .1 .1 .0) 10240 (m .kept .1 .1 .1 .1 .0) in
-    (p .0, (c .before .before .before .before .reset-words .ensures, c .before .before .before .before .before .before .before .before .if1 .left, omega (arith, n, p .1 .4)))
+    let l = c .before .before .before .before .before .before .before .before .before .before .before .before .before .before .before .before .before .before .before .before .before .before .before .before .before .before .args .new .now in
+    let p = c .before .before .before .before .before .before .before .before .before .before .before .before .before .before .before .before .before .before .before .before .before .before .before .before .before .before .pre in
+    let m = c .before .before .before .before .before .before .before .before .before .before .before .before .before .before .before .make-plan in
+    let r = c .before .before .before .before .before .before .reset-words in
+    let n = length-front l (m .last .1 .1 .1 .1 .0) 10240 (m .kept .1 .1 .1 .1 .0) in
+    let k = length-front (m .last .1 .1 .1 .1 .0 ++ drop 10240 l) (r .last .1 .1 .1 .1 .1 .1 .0) 7168 (r .kept .1 .1 .1 .1 .1 .1 .0) in
+    (p .0, (r .ensures, omega (arith, c .before .before .before .before .before .before .before .before .before .before .before .if1 .left), m .kept .1 .1 .1 .1 .1 .0 ∙ length-replicate {A = ℕ} 7168 0, r .kept .1 .1 .1 .1 .1 .1 .1 .0 ∙ length-replicate {A = ℕ} 1024 0, omega (arith, k, n, p .1 .4)))
 
 same-length-2 : tie.Need-same-length-2
 same-length-2 c = search needs
 
 returns-2 : tie.Need-returns-2
 returns-2 c =
-    let a = c .before .before .before .before .before .before .before .before .before .before .before .before .before .before .before .before .before .before .before .before .before .before .before .before .before .before .args in
-    (says-fine (netOf (a .file .now) (a .net .now)) (omega (arith, c .before .before .before .before .before .before .before .reset-words .ensures .count, c .before .before .before .before .before .before .before .before .before .before .before .if1 .left)), λ _. c .before .before .lay-circuit .ensures)
+    let a = c .before .before .before .before .before .before .before .before .before .before .before .before .before .before .before .before .before .before .before .before .before .before .before .before .before .before .before .before .before .args in
+    (says-fine (netOf (a .file .now) (a .net .now)) (omega (arith, c .before .before .before .before .before .before .before .before .before .reset-words .ensures .count, c .before .before .before .before .before .before .before .before .before .before .before .before .before .before .if1 .left)), λ _. c .before .before .lay-circuit .ensures)
 
 pub lay-timed-spec : {M : Type 1} → statement M
 lay-timed-spec =
@@ -91,7 +123,9 @@ lay-timed-spec =
     returns
     slice-aggregate-reset-words
     slice-aggregate-reset-words-2
+    slice-relend-prefix-reset-words
     slice-aggregate-reset-words-3
+    slice-aggregate-reset-words-4
     reset-words-requires
     slice-aggregate-lay-circuit
     slice-aggregate-lay-circuit-2

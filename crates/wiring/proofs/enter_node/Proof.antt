@@ -23,14 +23,14 @@ wires-to-requires c κs = search needs
 loop-holds : tie.Need-loop-holds Inv-loop μ-loop
 loop-holds c =
     let x : ℕ = c .before .before .before .before .before .args .x in
-    (omega arith, refl, wired-at (let e : 3 * x ≡ 3 * x + 0 = omega arith in e) (c .before .before .before .before .before .pre .1 .3), refl)
+    (omega arith, refl, wired-at (let e : 3 * x ≡ 3 * x + 0 = omega arith in e) (c .before .before .before .before .before .pre .1 .4), refl)
 
 enter-wire-requires : tie.Need-enter-wire-requires Inv-loop μ-loop
 enter-wire-requires c κs =
     let t = c .before .before .before .before .before .before .before .before .pre .1 in
     let w = c .before .before .before .wires-to .ensures in
     let i = c .before .before .loop .inv in
-    (c .before .before .before .before .before .before .before .before .pre .0, (t .0, t .1, omega (arith, w .1, c .before .loop-test .taken), omega (arith, w .0, c .before .loop-test .taken), i .1 ∙ t .2, i .2))
+    (c .before .before .before .before .before .before .before .before .pre .0, (t .0, t .1, t .2, omega (arith, w .1, c .before .loop-test .taken), omega (arith, w .0, c .before .loop-test .taken), i .1 ∙ t .3, i .2))
 
 add-p : tie.Need-add-p Inv-loop μ-loop
 add-p c = omega (arith, c .before .before .before .before .before .before .wires-to .ensures .1, c .before .before .before .before .loop-test .taken)
@@ -56,7 +56,7 @@ returns c =
     let i = c .before .loop .inv in
     let w = c .before .before .wires-to .ensures in
     let done : c .before .loop .p ≡ wiresTo (elementAt N (a .x)) = omega (arith, w .0, i .0, c .loop-test .left) in (
-      wired-gap (i .2) (3 * a .x + 3) (omega (arith, i .0, w .1)) (omega (arith, c .before .before .before .before .before .before .before .pre .1 .1, c .before .before .before .before .before .before .before .pre .0 .few))
+      wired-gap (i .2) (3 * a .x + 3) (omega (arith, i .0, w .1)) (omega (arith, c .before .before .before .before .before .before .before .pre .1 .2, c .before .before .before .before .before .before .before .pre .0 .few))
           (λ j l m. wire-missing N j (subst (λ (y : ℕ). wiresTo (elementAt N y) ≤ j % 3) (let e : a .x ≡ j / 3 = omega arith in e) (omega (arith, done)))),
       i .3,
     )

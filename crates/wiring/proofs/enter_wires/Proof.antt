@@ -21,13 +21,13 @@ node-count-requires : tie.Need-node-count-requires Inv-loop μ-loop
 node-count-requires c κs = search needs
 
 loop-holds : tie.Need-loop-holds Inv-loop μ-loop
-loop-holds c = (omega arith, refl, c .before .before .before .before .before .pre .1 .2, refl)
+loop-holds c = (omega arith, refl, c .before .before .before .before .before .pre .1 .3, refl)
 
 enter-node-requires : tie.Need-enter-node-requires Inv-loop μ-loop
 enter-node-requires c κs =
     let t = c .before .before .before .before .before .before .before .before .pre .1 in
     let i = c .before .before .loop .inv in
-    (c .before .before .before .before .before .before .before .before .pre .0, (t .0, omega (arith, c .before .before .before .node-count .ensures .0, c .before .loop-test .taken), i .1 ∙ t .1, i .2))
+    (c .before .before .before .before .before .before .before .before .pre .0, (t .0, t .1, omega (arith, c .before .before .before .node-count .ensures .0, c .before .loop-test .taken), i .1 ∙ t .2, i .2))
 
 add-x : tie.Need-add-x Inv-loop μ-loop
 add-x c = omega (arith, c .before .before .before .before .before .before .node-count .ensures .1, c .before .before .before .before .loop-test .taken)

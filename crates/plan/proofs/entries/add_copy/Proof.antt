@@ -1,7 +1,6 @@
 -- The word is there, or it is added; where there are too many already, none is.
 use mathlib.Core.Path.{refl}
 use native.Mathlib.Omega.{arith}
-use borrow.Author.Needs.{needs}
 use Rattle.plan.specs.EntriesLaws.{copy-over, copy-there, copy-added, placing-as, placing-count, owners-room, words-room}
 use Rattle.plan.proofs.entries.add_copy.Statement.{statement}
 use Rattle.plan.proofs.entries.add_copy.Tie as tie
@@ -10,19 +9,19 @@ returns : tie.Need-returns
 returns c = (record { grows = omega arith; little = omega arith; adds = λ pre d e t. copy-over pre (c .before .before .args .u) d (c .before .before .args .c) (c .if1 .taken) t }, refl, refl)
 
 find-from-requires : tie.Need-find-from-requires
-find-from-requires c κs = search needs
+find-from-requires c κs = (c .before .before .before .pre .0, omega (arith, c .before .if1 .left), c .before .before .before .pre .2)
 
 same-length : tie.Need-same-length
-same-length c = search needs
+same-length c = refl
 
 returns-2 : tie.Need-returns-2
 returns-2 c = (record { grows = omega arith; little = omega arith; adds = λ pre d e t. copy-there pre (c .before .before .before .before .before .args .u) d e (c .before .find-from .ensures) t (c .if2 .taken) }, refl, refl)
 
 add-entry-requires : tie.Need-add-entry-requires
-add-entry-requires c κs = search needs
+add-entry-requires c κs = (c .before .before .before .before .before .before .pre .1, c .before .before .before .before .before .before .pre .2)
 
 same-length-2 : tie.Need-same-length-2
-same-length-2 c = search needs
+same-length-2 c = c .before .before .add-entry .kept .1 .1 .1 .0
 
 returns-3 : tie.Need-returns-3
 returns-3 c =

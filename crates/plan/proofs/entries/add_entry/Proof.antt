@@ -7,14 +7,14 @@ use Rattle.plan.specs.EntriesLaws.{entry-put, entry-out}
 use Rattle.plan.proofs.entries.add_entry.Statement.{statement}
 use Rattle.plan.proofs.entries.add_entry.Tie as tie
 
-put-number-requires : tie.Need-put-number-requires
-put-number-requires c κs = search needs
+write-at-requires : tie.Need-write-at-requires
+write-at-requires c κs = search needs
 
-add-put-number : tie.Need-add-put-number
-add-put-number c = search needs
+add-write-at : tie.Need-add-write-at
+add-write-at c = search needs
 
-put-number-requires-2 : tie.Need-put-number-requires-2
-put-number-requires-2 c κs = search needs
+write-at-requires-2 : tie.Need-write-at-requires-2
+write-at-requires-2 c κs = search needs
 
 add-result : tie.Need-add-result
 add-result c = search needs
@@ -32,9 +32,9 @@ pub add-entry-spec : {M : Type 1} → statement M
 add-entry-spec =
     tie.close
     (tie.spec
-    put-number-requires
-    add-put-number
-    put-number-requires-2
+    write-at-requires
+    add-write-at
+    write-at-requires-2
     add-result
     same-length
     returns)

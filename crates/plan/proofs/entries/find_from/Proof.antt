@@ -20,16 +20,16 @@ abbrev μ-loop : tie.MeasureT-loop
 loop-holds : tie.Need-loop-holds Inv-loop μ-loop
 loop-holds c = (omega arith, c .before .pre .0, λ j h l. absurd (omega arith))
 
-add-number-at : tie.Need-add-number-at Inv-loop μ-loop
-add-number-at c = omega (arith, c .loop-test .taken, c .before .before .before .pre .1)
+add-read-at : tie.Need-add-read-at Inv-loop μ-loop
+add-read-at c = omega (arith, c .loop-test .taken, c .before .before .before .pre .1)
 
-number-at-requires : tie.Need-number-at-requires Inv-loop μ-loop
-number-at-requires c κs = search needs
+read-at-requires : tie.Need-read-at-requires Inv-loop μ-loop
+read-at-requires c κs = search needs
 
 returns : tie.Need-returns Inv-loop μ-loop
 returns c =
     let l = c .before .before .before .loop in
-    record { after = l .inv .0; before = l .inv .1; passed = l .inv .2; found = λ h. section-read 1024 1024 (c .before .before .before .before .before .args .plan .now) (l .i) (omega (arith, c .before .before .loop-test .taken, c .before .before .before .before .before .pre .1)) ∙ sym (c .before .number-at .ensures) ∙ c .if1 .taken }
+    record { after = l .inv .0; before = l .inv .1; passed = l .inv .2; found = λ h. section-read 1024 1024 (c .before .before .before .before .before .args .plan .now) (l .i) (omega (arith, c .before .before .loop-test .taken, c .before .before .before .before .before .pre .1)) ∙ sym (c .before .read-at .ensures) ∙ c .if1 .taken }
 
 add-i : tie.Need-add-i Inv-loop μ-loop
 add-i c = omega (arith, c .before .before .loop-test .taken, c .before .before .before .before .before .fits)
@@ -42,7 +42,7 @@ loop-again c =
     let l = c .before .before .before .loop in
     let a = c .before .before .before .before .before .args in
     let r = section-read 1024 1024 (a .plan .now) (l .i) (omega (arith, c .before .before .loop-test .taken, c .before .before .before .before .before .pre .1)) in
-    (omega (arith, l .inv .0), omega (arith, c .before .before .loop-test .taken), λ j h k e. ⊎-elim (λ y. l .inv .2 j h y e) (λ y. c .if1 .left (c .before .number-at .ensures ∙ sym r ∙ ap (λ (m : ℕ). getD (wordsIn (a .plan .now)) m 0) (sym y) ∙ e)) (lt-suc-split (let z : j < suc (l .i) = omega arith in z)))
+    (omega (arith, l .inv .0), omega (arith, c .before .before .loop-test .taken), λ j h k e. ⊎-elim (λ y. l .inv .2 j h y e) (λ y. c .if1 .left (c .before .read-at .ensures ∙ sym r ∙ ap (λ (m : ℕ). getD (wordsIn (a .plan .now)) m 0) (sym y) ∙ e)) (lt-suc-split (let z : j < suc (l .i) = omega arith in z)))
 
 returns-2 : tie.Need-returns-2 Inv-loop μ-loop
 returns-2 c = record { after = c .before .loop .inv .0; before = c .before .loop .inv .1; passed = c .before .loop .inv .2; found = λ h. absurd (omega (arith, c .loop-test .left)) }
@@ -54,8 +54,8 @@ find-from-spec =
     Inv-loop
     μ-loop
     loop-holds
-    add-number-at
-    number-at-requires
+    add-read-at
+    read-at-requires
     returns
     add-i
     loop-less

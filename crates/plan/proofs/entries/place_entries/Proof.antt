@@ -37,25 +37,25 @@ returns c =
     let i = c .before .before .loop .inv in
     (placed-over (netOf (a .file .now) (a .net .now)) (firstsIn (c .before .before .loop .plan)) (i .3) (omega (arith, c .before .before .before .node-count .ensures .0, i .0)) (c .if1 .taken), i .5)
 
-add-put-number : tie.Need-add-put-number Inv-loop μ-loop
-add-put-number c = omega (arith, c .before .before .loop-test .taken, c .before .before .before .before .node-count .ensures .1)
+add-write-at : tie.Need-add-write-at Inv-loop μ-loop
+add-write-at c = omega (arith, c .before .before .loop-test .taken, c .before .before .before .before .node-count .ensures .1)
 
-cast-put-number : tie.Need-cast-put-number Inv-loop μ-loop
-cast-put-number c = omega (arith, c .before .if1 .left)
+cast-write-at : tie.Need-cast-write-at Inv-loop μ-loop
+cast-write-at c = omega (arith, c .before .if1 .left)
 
-put-number-requires : tie.Need-put-number-requires Inv-loop μ-loop
-put-number-requires c κs = search needs
+write-at-requires : tie.Need-write-at-requires Inv-loop μ-loop
+write-at-requires c κs = search needs
 
 place-requires : tie.Need-place-requires Inv-loop μ-loop
 place-requires c κs =
     let s = c .before .before .before .before .before .before .before .before .before .before .before .before .before .before in
     let t = s .pre .1 in
     let l = c .before .before .before .before .before .before .before .loop in
-    let w = c .before .before .before .put-number in
+    let w = c .before .before .before .write-at in
     let h = c .before .before .before .before .before .before .loop-test .taken in
     let n = c .before .before .before .before .before .before .before .before .node-count .ensures in
     let p = first-put (l .plan) (w .last .0) (l .u) (l .count) (omega (arith, h, n .1)) (w .ensures) in
-    (s .pre .0, (omega (arith, n .0, h), omega (arith, c .before .before .before .before .before .if1 .left), t .0, w .kept .0 ∙ l .inv .1 ∙ t .1, t .2, t .3, placing-as (p .0) (p .1) refl (l .inv .3)))
+    (s .pre .0, (omega (arith, n .0, h), omega (arith, c .before .before .before .before .before .if1 .left), t .0, t .1, w .kept .0 ∙ l .inv .1 ∙ t .2, t .3, t .4, placing-as (p .0) (p .1) refl (l .inv .3)))
 
 add-u : tie.Need-add-u Inv-loop μ-loop
 add-u c = omega (arith, c .before .before .before .before .before .before .before .before .before .loop-test .taken, c .before .before .before .before .before .before .before .before .before .before .before .node-count .ensures .1)
@@ -70,7 +70,7 @@ loop-again c =
     let t = s .pre .1 in
     let l = c .before .before .before .before .before .before .before .before .before .before .loop in
     let i = l .inv in
-    let w = c .before .before .before .before .before .before .put-number in
+    let w = c .before .before .before .before .before .before .write-at in
     let r = c .before .before .place in
     let h = c .before .before .before .before .before .before .before .before .before .loop-test .taken in
     let n = c .before .before .before .before .before .before .before .before .before .before .before .node-count .ensures in
@@ -80,7 +80,7 @@ loop-again c =
       r .kept .1 .1 .1 .1 .1 .1 .0 ∙ w .kept .0 ∙ i .1,
       r .ensures .1,
       r .ensures .0,
-      λ g. firsts-as N (r .ensures .3 ∙ p .3) (first-more N (firstsIn (l .plan)) (i .3) o (omega (arith, section-length 3072 1024 (l .plan) (omega (arith, i .1, t .1)), h, n .1)) (i .4 o)),
+      λ g. firsts-as N (r .ensures .3 ∙ p .3) (first-more N (firstsIn (l .plan)) (i .3) o (omega (arith, section-length 3072 1024 (l .plan) (omega (arith, i .1, t .2)), h, n .1)) (i .4 o)),
       r .ensures .2 ∙ p .2 ∙ i .5,
     )
 
@@ -103,9 +103,9 @@ place-entries-spec =
     loop-holds
     same-length
     returns
-    add-put-number
-    cast-put-number
-    put-number-requires
+    add-write-at
+    cast-write-at
+    write-at-requires
     place-requires
     add-u
     loop-less

@@ -1,157 +1,151 @@
--- No wire, or one more with its registers.
-use mathlib.Core.Path.{refl, _∙_}
-use Prim.Native.Nat.{_*_, _<_}
+-- One wire more, with its registers.
+use mathlib.Core.Path.{_∙_}
 use native.Mathlib.Omega.{arith}
 use Rattle.circuit.specs.Circuit.{netOf}
 use Rattle.wiring.specs.WiringLaws.{lead-few}
-use Rattle.plan.specs.Registers.{entryCount}
-use Rattle.plan.specs.RegistersLaws.{reader-inside, none-laid, source-within, first-small, wire-laid}
-use borrow.Author.Needs.{needs}
+use Rattle.plan.specs.RegistersLaws.{WireRead, wire-read, wire-laid}
 use Rattle.plan.proofs.registers.lay_wire.Statement.{statement}
 use Rattle.plan.proofs.registers.lay_wire.Tie as tie
 
-number-at-requires : tie.Need-number-at-requires
-number-at-requires c κs = search needs
+-- the wire, once its reader is read
+abbrev start : tie.After-wide → tie.Start
+start c = c .before .before .before .before .before .before .before .before .before
+
+wire : (c : tie.After-wide) → WireRead (netOf (start c .args .file .now) (start c .args .net .now)) (start c .args .wires .now) (start c .args .plan .now) (start c .args .to .e) (start c .args .to .p) (c .wide .result)
+wire c =
+    let a = start c .args in
+    let t = start c .pre .1 in
+    wire-read (a .wires .now) (a .plan .now) (t .0) (t .9) (t .5) (t .7) (t .8) (c .wide .ensures .0 ∙ c .before .read-at .ensures)
+
+read-at-requires : tie.Need-read-at-requires
+read-at-requires c κs =
+    let t = c .before .before .before .before .before .before .before .pre .1 in
+    omega (arith, t .4, t .5, t .7, t .0 .few)
 
 wide-requires : tie.Need-wide-requires
-wide-requires c κs = search needs
+wide-requires c κs = tt
 
 mul-k : tie.Need-mul-k
-mul-k c = search needs
+mul-k c = omega (arith, wire c .old)
 
 add-k : tie.Need-add-k
-add-k c = search needs
+add-k c = omega (arith, wire c .old)
 
-add-number-at : tie.Need-add-number-at
-add-number-at c = search needs
+add-read-at : tie.Need-add-read-at
+add-read-at c = omega (arith, wire c .old)
 
-number-at-requires-2 : tie.Need-number-at-requires-2
-number-at-requires-2 c κs = search needs
-
-same-length : tie.Need-same-length
-same-length c = search needs
-
-returns : tie.Need-returns
-returns c =
-    let a = c .before .before .before .before .before .before .before .before .before .before .before .args in
-    let t = c .before .before .before .before .before .before .before .before .before .before .before .pre .1 in
-    let h : a .m < 3 * entryCount (netOf (a .file .now) (a .net .now)) = omega (arith, t .1, t .2) in
-    let x = c .before .before .wide .ensures .0 ∙ c .before .before .before .number-at .ensures in
-    (none-laid (a .wires .now) (a .plan .now) (t .0) (t .5) h x (c .before .number-at2 .ensures) (c .if1 .taken), omega (arith, t .3), refl)
-
-source-of-requires : tie.Need-source-of-requires
-source-of-requires c κs =
-    let a = c .before .before .before .before .before .before .before .before .before .before .before .args in
-    let t = c .before .before .before .before .before .before .before .before .before .before .before .pre .1 in
-    let h : a .m < 3 * entryCount (netOf (a .file .now) (a .net .now)) = omega (arith, t .1, t .2) in
-    let x = c .before .before .wide .ensures .0 ∙ c .before .before .before .number-at .ensures in
-    (c .before .before .before .before .before .before .before .before .before .before .before .pre .0, reader-inside (a .wires .now) (a .plan .now) (t .0) (t .5) h x, omega arith)
-
-number-at-requires-3 : tie.Need-number-at-requires-3
-number-at-requires-3 c κs = search needs
+read-at-requires-2 : tie.Need-read-at-requires-2
+read-at-requires-2 c κs = omega (arith, wire c .old, start c .pre .1 .2)
 
 wide-requires-2 : tie.Need-wide-requires-2
-wide-requires-2 c κs = search needs
+wide-requires-2 c κs = tt
 
-add-number-at-2 : tie.Need-add-number-at-2
-add-number-at-2 c = search needs
+source-of-requires : tie.Need-source-of-requires
+source-of-requires c κs = let w = wire (c .before .before) in (c .before .before .before .before .before .before .before .before .before .before .before .pre .0, w .inside, w .few)
 
-number-at-requires-4 : tie.Need-number-at-requires-4
-number-at-requires-4 c κs = search needs
+read-at-requires-3 : tie.Need-read-at-requires-3
+read-at-requires-3 c κs = omega (arith, wire (c .before .before .before) .old, c .before .before .before .before .before .before .before .before .before .before .before .before .pre .1 .3)
+
+add-read-at-2 : tie.Need-add-read-at-2
+add-read-at-2 c = omega (arith, c .before .before .before .wide2 .ensures .1)
+
+read-at-requires-4 : tie.Need-read-at-requires-4
+read-at-requires-4 c κs =
+    let s = c .before .before .before .before .before .before .before .before .before .before .before .before .before .before .pre in
+    omega (arith, s .0 .few, s .1 .4, wire (c .before .before .before .before .before) .end (c .before .before .before .wide2 .ensures .0 ∙ c .before .before .before .before .read-at2 .ensures))
 
 wide-requires-3 : tie.Need-wide-requires-3
-wide-requires-3 c κs = search needs
+wide-requires-3 c κs = tt
 
 find-from-requires : tie.Need-find-from-requires
 find-from-requires c κs =
-    let a = c .before .before .before .before .before .before .before .before .before .before .before .before .before .before .before .before .before .before .args in
-    let t = c .before .before .before .before .before .before .before .before .before .before .before .before .before .before .before .before .before .before .pre .1 in
-    let h : a .m < 3 * entryCount (netOf (a .file .now) (a .net .now)) = omega (arith, t .1, t .2) in
-    let x = c .before .before .before .before .before .before .before .before .before .wide .ensures .0 ∙ c .before .before .before .before .before .before .before .before .before .before .number-at .ensures in
-    (omega (arith, t .1, first-small (a .wires .now) (a .plan .now) (t .0) (t .5) h x (c .before .before .before .before .before .before .before .before .number-at2 .ensures) (c .before .before .before .before .before .before .before .if1 .left) (c .before .before .before .before .before .before .source-of .ensures .0) (c .before .before .before .before .before .number-at3 .ensures) (c .before .before .before .wide2 .ensures .0) (c .before .wide3 .ensures .0 ∙ c .before .before .number-at4 .ensures)), omega (arith, t .1, t .0 .few))
+    let t = c .before .before .before .before .before .before .before .before .before .before .before .before .before .before .before .before .before .pre .1 in
+    let w = wire (c .before .before .before .before .before .before .before .before) .first (c .before .before .before .before .before .before .wide2 .ensures .0 ∙ c .before .before .before .before .before .before .before .read-at2 .ensures) (c .before .wide3 .ensures .0 ∙ c .before .before .read-at4 .ensures) in
+    (omega (arith, t .5, w), omega (arith, t .5, t .0 .few), t .4)
 
 cast-from : tie.Need-cast-from
-cast-from c = search needs
+cast-from c = let t = c .before .before .before .before .before .before .before .before .before .before .before .before .before .before .before .before .before .before .pre .1 in omega (arith, c .find-from .ensures .before, t .5, t .0 .few)
 
 count-on-requires : tie.Need-count-on-requires
 count-on-requires c κs =
-    let a = c .before .before .before .before .before .before .before .before .before .before .before .before .before .before .before .before .before .before .before .args in
-    let t = c .before .before .before .before .before .before .before .before .before .before .before .before .before .before .before .before .before .before .before .pre .1 in
-    let h : a .m < 3 * entryCount (netOf (a .file .now) (a .net .now)) = omega (arith, t .1, t .2) in
-    let x = c .before .before .before .before .before .before .before .before .before .before .wide .ensures .0 ∙ c .before .before .before .before .before .before .before .before .before .before .before .number-at .ensures in
-    (c .before .before .before .before .before .before .before .before .before .before .before .before .before .before .before .before .before .before .before .pre .0, (t .0 .ready, reader-inside (a .wires .now) (a .plan .now) (t .0) (t .5) h x, source-within (a .wires .now) (a .plan .now) (t .0) (t .5) h x (c .before .before .before .before .before .before .before .before .before .number-at2 .ensures) (c .before .before .before .before .before .before .before .before .if1 .left) (c .before .before .before .before .before .before .before .source-of .ensures .0)))
+    let s = c .before .before .before .before .before .before .before .before .before .before .before .before .before .before .before .before .before .before .pre in
+    let w = wire (c .before .before .before .before .before .before .before .before .before) in
+    (s .0, (s .1 .0 .ready, s .1 .1, w .inside, omega (arith, w .from, c .before .before .before .before .before .before .source-of .ensures .0)))
 
-number-at-requires-5 : tie.Need-number-at-requires-5
-number-at-requires-5 c κs = search needs
+read-at-requires-5 : tie.Need-read-at-requires-5
+read-at-requires-5 c κs =
+    let s = c .before .before .before .before .before .before .before .before .before .before .before .before .before .before .before .before .before .before .before .pre in
+    omega (arith, s .0 .few, s .1 .1, wire (c .before .before .before .before .before .before .before .before .before .before) .inside)
 
 wide-requires-4 : tie.Need-wide-requires-4
-wide-requires-4 c κs = search needs
+wide-requires-4 c κs = tt
 
 cast-put-registers : tie.Need-cast-put-registers
-cast-put-registers c = search needs
+cast-put-registers c = omega (arith, c .before .before .before .before .before .before .before .before .before .source-of .ensures .1)
 
 put-registers-requires : tie.Need-put-registers-requires
 put-registers-requires c κs =
-    let a = c .before .before .before .before .before .before .before .before .before .before .before .before .before .before .before .before .before .before .before .before .before .before .before .args in
-    let t = c .before .before .before .before .before .before .before .before .before .before .before .before .before .before .before .before .before .before .before .before .before .before .before .pre .1 in
-    let h : a .m < 3 * entryCount (netOf (a .file .now) (a .net .now)) = omega (arith, t .1, t .2) in
-    let x = c .before .before .before .before .before .before .before .before .before .before .before .before .before .before .wide .ensures .0 ∙ c .before .before .before .before .before .before .before .before .before .before .before .before .before .before .before .number-at .ensures in
-    let l = lead-few (t .0 .ready) (c .before .before .before .before .before .before .before .before .before .before .before .before .before .before .wide .result) (reader-inside (a .wires .now) (a .plan .now) (t .0) (t .5) h x) in
-    (omega (arith, c .before .wide4 .ensures .0 ∙ c .before .before .number-at5 .ensures, l), c .before .before .before .count-on .ensures .1, t .3, t .4)
+    let t = c .before .before .before .before .before .before .before .before .before .before .before .before .before .before .before .before .before .before .before .before .before .before .pre .1 in
+    let w = c .before .before .before .before .before .before .before .before .before .before .before .before .before in
+    (omega (arith, c .before .wide4 .ensures .0 ∙ c .before .before .read-at5 .ensures, lead-few (t .0 .ready) (w .wide .result) (wire w .inside)), c .before .before .before .count-on .ensures .1, t .6, t .4)
 
-add-put-number : tie.Need-add-put-number
-add-put-number c = omega (arith, c .before .before .before .before .before .before .before .before .before .before .before .before .before .before .before .before .before .before .before .before .before .before .before .before .before .before .before .pre .1 .1, c .before .before .before .before .before .before .before .before .before .before .before .before .before .before .before .before .before .before .before .before .before .before .before .before .before .before .before .pre .1 .2, c .before .before .before .before .before .before .before .before .before .before .before .before .before .before .before .before .before .before .before .before .before .before .before .before .before .before .before .pre .1 .0 .few)
+mul-write-at : tie.Need-mul-write-at
+mul-write-at c = omega (arith, wire (c .before .before .before .before .before .before .before .before .before .before .before .before .before .before .before .before .before) .new)
+
+add-write-at : tie.Need-add-write-at
+add-write-at c = omega (arith, wire (c .before .before .before .before .before .before .before .before .before .before .before .before .before .before .before .before .before) .new)
+
+add-write-at-2 : tie.Need-add-write-at-2
+add-write-at-2 c = omega (arith, wire (c .before .before .before .before .before .before .before .before .before .before .before .before .before .before .before .before .before) .new)
 
 last-of-requires : tie.Need-last-of-requires
-last-of-requires c κs = (c .before .before .before .before .before .before .before .count-on .ensures .1, c .before .before .before .before .before .before .before .before .before .before .before .before .before .before .before .before .before .before .before .before .before .before .before .before .before .before .before .pre .1 .3)
+last-of-requires c κs = (c .before .before .before .before .before .before .before .count-on .ensures .1, c .before .before .before .before .before .before .before .before .before .before .before .before .before .before .before .before .before .before .before .before .before .before .before .before .before .before .pre .1 .6)
 
-put-number-requires : tie.Need-put-number-requires
-put-number-requires c κs = search needs
+write-at-requires : tie.Need-write-at-requires
+write-at-requires c κs = omega (arith, wire (c .before .before .before .before .before .before .before .before .before .before .before .before .before .before .before .before .before .before) .new, c .before .before .before .before .put-registers .kept .1 .1 .1 .1 .1 .0 ∙ c .before .before .before .before .before .before .before .before .before .before .before .before .before .before .before .before .before .before .before .before .before .before .before .before .before .before .before .pre .1 .4)
 
 add-result : tie.Need-add-result
-add-result c = omega (arith, c .before .before .before .before .before .before .before .before .before .before .before .count-on .ensures .1, c .before .before .before .before .before .before .before .before .before .before .before .before .before .before .before .before .before .before .before .before .before .before .before .before .before .before .before .before .before .before .before .pre .1 .3)
+add-result c = omega (arith, c .before .before .before .before .before .before .before .before .before .before .before .count-on .ensures .1, c .before .before .before .before .before .before .before .before .before .before .before .before .before .before .before .before .before .before .before .before .before .before .before .before .before .before .before .before .before .before .pre .1 .6)
 
-same-length-2 : tie.Need-same-length-2
-same-length-2 c = search needs
+same-length : tie.Need-same-length
+same-length c = c .before .before .write-at .kept .0 ∙ c .before .before .before .before .before .before .before .put-registers .kept .1 .1 .1 .1 .1 .0
 
-returns-2 : tie.Need-returns-2
-returns-2 c =
-    let a = c .before .before .before .before .before .before .before .before .before .before .before .before .before .before .before .before .before .before .before .before .before .before .before .before .before .before .before .before .before .before .before .args in
-    let t = c .before .before .before .before .before .before .before .before .before .before .before .before .before .before .before .before .before .before .before .before .before .before .before .before .before .before .before .before .before .before .before .pre .1 in
-    let h : a .m < 3 * entryCount (netOf (a .file .now) (a .net .now)) = omega (arith, t .1, t .2) in
-    let x = c .before .before .before .before .before .before .before .before .before .before .before .before .before .before .before .before .before .before .before .before .before .before .wide .ensures .0 ∙ c .before .before .before .before .before .before .before .before .before .before .before .before .before .before .before .before .before .before .before .before .before .before .before .number-at .ensures in
+returns : tie.Need-returns
+returns c =
+    let a = c .before .before .before .before .before .before .before .before .before .before .before .before .before .before .before .before .before .before .before .before .before .before .before .before .before .before .before .before .before .before .args in
+    let t = c .before .before .before .before .before .before .before .before .before .before .before .before .before .before .before .before .before .before .before .before .before .before .before .before .before .before .before .before .before .before .pre .1 in
     let q = c .before .before .before .before .before .before .before .put-registers in
-    let laid = wire-laid (a .wires .now) (a .plan .now) (t .0) (t .5) h x (c .before .before .before .before .before .before .before .before .before .before .before .before .before .before .before .before .before .before .before .before .before .number-at2 .ensures) (c .before .before .before .before .before .before .before .before .before .before .before .before .before .before .before .before .before .before .before .before .if1 .left) (c .before .before .before .before .before .before .before .before .before .before .before .before .before .before .before .before .before .before .before .source-of .ensures .0) (c .before .before .before .before .before .before .before .before .before .before .before .before .before .before .before .before .before .before .number-at3 .ensures) (c .before .before .before .before .before .before .before .before .before .before .before .before .before .before .before .before .wide2 .ensures .0) (c .before .before .before .before .before .before .before .before .before .before .before .before .before .before .wide3 .ensures .0 ∙ c .before .before .before .before .before .before .before .before .before .before .before .before .before .before .before .number-at4 .ensures) (q .last .1 .1 .1 .1 .1 .0) (c .before .before .put-number .last .0) (t .1) (c .before .before .before .before .before .before .before .before .before .before .before .before .find-from .ensures) (c .before .before .before .before .before .before .before .before .before .before .before .count-on .ensures .0) (c .before .before .before .before .before .before .before .before .before .wide4 .ensures .0 ∙ c .before .before .before .before .before .before .before .before .before .before .number-at5 .ensures) (q .ensures) (q .kept .1 .1 .1 .1 .1 .0 ∙ t .4) (c .before .before .put-number .ensures) (c .before .before .before .last-of .ensures) in
-    (laid .0, omega (arith, c .before .before .before .before .before .before .before .before .before .before .before .count-on .ensures .1, t .3), laid .1)
+    let laid = wire-laid (a .wires .now) (a .plan .now) (t .0) (t .9) (t .5) (t .7) (t .8) (c .before .before .before .before .before .before .before .before .before .before .before .before .before .before .before .before .before .before .before .before .before .wide .ensures .0 ∙ c .before .before .before .before .before .before .before .before .before .before .before .before .before .before .before .before .before .before .before .before .before .before .read-at .ensures) (q .last .1 .1 .1 .1 .1 .0) (c .before .before .write-at .last .0) (c .before .before .before .before .before .before .before .before .before .before .before .before .before .before .before .before .before .before .before .wide2 .ensures .0 ∙ c .before .before .before .before .before .before .before .before .before .before .before .before .before .before .before .before .before .before .before .before .read-at2 .ensures) (c .before .before .before .before .before .before .before .before .before .before .before .before .before .before .before .before .before .before .source-of .ensures .0) (c .before .before .before .before .before .before .before .before .before .before .before .before .before .before .before .before .before .read-at3 .ensures) (c .before .before .before .before .before .before .before .before .before .before .before .before .before .before .wide3 .ensures .0 ∙ c .before .before .before .before .before .before .before .before .before .before .before .before .before .before .before .read-at4 .ensures) (c .before .before .before .before .before .before .before .before .before .before .before .before .find-from .ensures) (c .before .before .before .before .before .before .before .before .before .before .before .count-on .ensures .0) (c .before .before .before .before .before .before .before .before .before .wide4 .ensures .0 ∙ c .before .before .before .before .before .before .before .before .before .before .read-at5 .ensures) (q .ensures) (q .kept .1 .1 .1 .1 .1 .0 ∙ t .4) (c .before .before .write-at .ensures) (c .before .before .before .last-of .ensures) in
+    (laid .0, omega (arith, c .before .before .before .before .before .before .before .before .before .before .before .count-on .ensures .1, t .6), laid .1)
 
 pub lay-wire-spec : {M : Type 1} → statement M
 lay-wire-spec =
     tie.close
     (tie.spec
-    number-at-requires
+    read-at-requires
     wide-requires
     mul-k
     add-k
-    add-number-at
-    number-at-requires-2
-    same-length
-    returns
-    source-of-requires
-    number-at-requires-3
+    add-read-at
+    read-at-requires-2
     wide-requires-2
-    add-number-at-2
-    number-at-requires-4
+    source-of-requires
+    read-at-requires-3
+    add-read-at-2
+    read-at-requires-4
     wide-requires-3
     find-from-requires
     cast-from
     count-on-requires
-    number-at-requires-5
+    read-at-requires-5
     wide-requires-4
     cast-put-registers
     put-registers-requires
-    add-put-number
+    mul-write-at
+    add-write-at
+    add-write-at-2
     last-of-requires
-    put-number-requires
+    write-at-requires
     add-result
-    same-length-2
-    returns-2)
+    same-length
+    returns)

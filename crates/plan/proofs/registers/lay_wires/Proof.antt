@@ -1,61 +1,66 @@
--- The loop's invariant: the first m wires are laid.
+-- The loop's invariant: the wires of the first e entries are laid, or it is known that there are too many nodes.
 use mathlib.Core.Path.{_≡_, refl, _∙_}
-use Prim.Native.Nat.{_-_, _*_, _≤_}
+use mathlib.Core.Logic.{⊎-elim}
+use Prim.Native.Nat.{ℕ, _+_, _-_, _*_, _≤_, _<_}
 use native.Mathlib.Omega.{arith}
 use lib.ListN.{length}
+use Rattle.lists.specs.BelowLaws.{lt-or-le}
 use Rattle.circuit.specs.Circuit.{netOf}
 use Rattle.plan.specs.Areas.{ownersIn, wordsIn, lateIn, firstsIn, sourcesIn}
-use Rattle.plan.specs.Registers.{Laid}
-use Rattle.plan.specs.RegistersLaws.{planning-as, laid-over, laid-all}
+use Rattle.plan.specs.Registers.{Laid, AllLaid}
+use Rattle.plan.specs.RegistersLaws.{laid-at, planning-as, laid-all}
 use Rattle.plan.proofs.registers.lay_wires.Statement.{statement}
 use Rattle.plan.proofs.registers.lay_wires.Tie as tie
 
 abbrev Inv-loop : tie.InvT-loop
-Inv-loop file net timing wires copied entries plan₀ total₀ m₀ plan total m =
-    (m ≤ 3 * entries) × (length plan ≡ length plan₀) × (firstsIn plan ≡ firstsIn plan₀) × Laid (netOf file net) (ownersIn plan) (wordsIn plan) (lateIn plan) (sourcesIn plan) m total
+Inv-loop file net timing wires copied entries plan₀ total₀ e₀ plan total e =
+    (e ≤ entries) × (length plan ≡ length plan₀) × (firstsIn plan ≡ firstsIn plan₀)
+    × (total ≤ 1024 → Laid (netOf file net) (ownersIn plan) (wordsIn plan) (lateIn plan) (sourcesIn plan) (3 * e) total)
+    × (1024 < total → AllLaid (netOf file net) (ownersIn plan) (wordsIn plan) (lateIn plan) (sourcesIn plan) total)
 
 abbrev μ-loop : tie.MeasureT-loop
-μ-loop file net timing wires copied entries plan₀ total₀ m₀ plan total m = 3 * entries - m
+μ-loop file net timing wires copied entries plan₀ total₀ e₀ plan total e = entries - e
 
 loop-holds : tie.Need-loop-holds Inv-loop μ-loop
-loop-holds c = (omega arith, refl, refl, c .before .before .before .before .before .before .pre .1 .3)
-
-mul-loop : tie.Need-mul-loop Inv-loop μ-loop
-mul-loop c = omega (arith, c .before .before .before .before .before .before .before .pre .1 .1, c .before .before .before .before .before .before .before .pre .1 .0 .few)
+loop-holds c =
+    let t = c .before .before .before .before .before .before .pre .1 in
+    (omega arith, refl, refl, λ g. t .6, λ g. absurd (omega (arith, t .4, t .0 .few)))
 
 same-length : tie.Need-same-length Inv-loop μ-loop
 same-length c = c .before .before .loop .inv .1
 
 returns : tie.Need-returns Inv-loop μ-loop
-returns c =
-    let a = c .before .before .before .before .before .before .before .before .before .args in
-    laid-over (netOf (a .file .now) (a .net .now)) (c .before .before .loop .inv .3) (omega (arith, c .before .before .loop .inv .0, c .before .before .before .before .before .before .before .before .before .pre .1 .1)) (c .if1 .taken)
+returns c = c .before .before .loop .inv .4 (c .if1 .taken)
 
-lay-wire-requires : tie.Need-lay-wire-requires Inv-loop μ-loop
-lay-wire-requires c κs =
-    let t = c .before .before .before .before .before .before .before .before .before .before .pre .1 in
+lay-entry-requires : tie.Need-lay-entry-requires Inv-loop μ-loop
+lay-entry-requires c κs =
+    let s = c .before .before .before .before .before .before .before .before .before .before in
+    let t = s .pre .1 in
     let i = c .before .before .before .loop .inv in
-    (c .before .before .before .before .before .before .before .before .before .before .pre .0, (planning-as (i .2) (t .0), t .1, c .before .before .loop-test .taken, omega (arith, c .before .if1 .left), i .1 ∙ t .2, i .3))
+    let o = c .before .if1 .left in
+    (s .pre .0, (planning-as (i .2) (t .0), t .1, t .2, t .3, i .1 ∙ t .5, t .4, omega (arith, o), c .before .before .loop-test .taken, i .3 (omega (arith, o))))
 
-add-m : tie.Need-add-m Inv-loop μ-loop
-add-m c = omega (arith, c .before .before .before .before .before .loop-test .taken, c .before .before .before .before .before .before .before .before .before .before .before .before .before .pre .1 .1, c .before .before .before .before .before .before .before .before .before .before .before .before .before .pre .1 .0 .few)
+add-e : tie.Need-add-e Inv-loop μ-loop
+add-e c = omega (arith, c .before .before .before .before .before .loop-test .taken, c .before .before .before .before .before .before .before .before .before .before .before .before .before .fits)
 
 loop-less : tie.Need-loop-less Inv-loop μ-loop
 loop-less c = omega (arith, c .before .before .before .before .before .loop-test .taken)
 
 loop-again : tie.Need-loop-again Inv-loop μ-loop
 loop-again c =
+    let e : ℕ = c .before .before .before .before .before .before .loop .e in
     let i = c .before .before .before .before .before .before .loop .inv in
-    let r = c .before .before .lay-wire in
-    (omega (arith, c .before .before .before .before .before .loop-test .taken), r .kept .1 .1 .1 .1 .1 .1 .1 .0 ∙ i .1, r .ensures .2 ∙ i .2, r .ensures .0)
+    let r = c .before .before .lay-entry in
+    (omega (arith, c .before .before .before .before .before .loop-test .taken), r .kept .1 .1 .1 .1 .1 .1 .1 .0 ∙ i .1, r .ensures .2 ∙ i .2, λ g. laid-at (let z : 3 * e + 3 ≡ 3 * (e + 1) = omega arith in z) (r .ensures .0 g), r .ensures .1)
 
 same-length-2 : tie.Need-same-length-2 Inv-loop μ-loop
 same-length-2 c = c .before .loop .inv .1
 
 returns-2 : tie.Need-returns-2 Inv-loop μ-loop
 returns-2 c =
-    let a = c .before .before .before .before .before .before .before .before .args in
-    laid-all (netOf (a .file .now) (a .net .now)) (c .before .loop .inv .3) (omega (arith, c .before .loop .inv .0, c .loop-test .left, c .before .before .before .before .before .before .before .before .pre .1 .1))
+    let s = c .before .before .before .before .before .before .before .before in
+    let l = c .before .loop in
+    ⊎-elim (l .inv .4) (λ g. laid-all (netOf (s .args .file .now) (s .args .net .now)) (l .inv .3 g) (omega (arith, l .inv .0, c .loop-test .left, s .pre .1 .4))) (lt-or-le 1024 (l .total))
 
 pub lay-wires-spec : {M : Type 1} → statement M
 lay-wires-spec =
@@ -64,11 +69,10 @@ lay-wires-spec =
     Inv-loop
     μ-loop
     loop-holds
-    mul-loop
     same-length
     returns
-    lay-wire-requires
-    add-m
+    lay-entry-requires
+    add-e
     loop-less
     loop-again
     same-length-2

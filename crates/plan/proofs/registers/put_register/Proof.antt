@@ -5,23 +5,23 @@ use Rattle.plan.specs.RegistersPut.{register-put, register-past}
 use Rattle.plan.proofs.registers.put_register.Statement.{statement}
 use Rattle.plan.proofs.registers.put_register.Tie as tie
 
-put-number-requires : tie.Need-put-number-requires
-put-number-requires c κs = search needs
+write-at-requires : tie.Need-write-at-requires
+write-at-requires c κs = search needs
 
-add-put-number : tie.Need-add-put-number
-add-put-number c = search needs
+add-write-at : tie.Need-add-write-at
+add-write-at c = search needs
 
-put-number-requires-2 : tie.Need-put-number-requires-2
-put-number-requires-2 c κs = search needs
+write-at-requires-2 : tie.Need-write-at-requires-2
+write-at-requires-2 c κs = search needs
 
-mul-put-number : tie.Need-mul-put-number
-mul-put-number c = search needs
+mul-write-at : tie.Need-mul-write-at
+mul-write-at c = search needs
 
-add-put-number-2 : tie.Need-add-put-number-2
-add-put-number-2 c = search needs
+add-write-at-2 : tie.Need-add-write-at-2
+add-write-at-2 c = search needs
 
-put-number-requires-3 : tie.Need-put-number-requires-3
-put-number-requires-3 c κs = search needs
+write-at-requires-3 : tie.Need-write-at-requires-3
+write-at-requires-3 c κs = search needs
 
 same-length : tie.Need-same-length
 same-length c = search needs
@@ -29,7 +29,7 @@ same-length c = search needs
 returns : tie.Need-returns
 returns c =
     let a = c .before .before .before .before .before .before .before .before .before .before .before .before .before .before .args in
-    register-put (a .plan .now) (c .before .before .before .before .before .before .before .before .before .before .put-number .last .0) (c .before .before .before .before .before .before .put-number2 .last .0) (c .before .before .put-number3 .last .0) (a .r) (a .s) (a .clock) (a .before) (c .before .before .before .before .before .before .before .before .before .before .before .before .if1 .taken) (c .before .before .before .before .before .before .before .before .before .before .put-number .ensures) (c .before .before .before .before .before .before .put-number2 .ensures) (c .before .before .put-number3 .ensures)
+    register-put (a .plan .now) (c .before .before .before .before .before .before .before .before .before .before .write-at .last .0) (c .before .before .before .before .before .before .write-at2 .last .0) (c .before .before .write-at3 .last .0) (a .r) (a .s) (a .clock) (a .before) (c .before .before .before .before .before .before .before .before .before .before .before .before .if1 .taken) (c .before .before .before .before .before .before .before .before .before .before .write-at .ensures) (c .before .before .before .before .before .before .write-at2 .ensures) (c .before .before .write-at3 .ensures)
 
 returns-2 : tie.Need-returns-2
 returns-2 c =
@@ -40,12 +40,12 @@ pub put-register-spec : {M : Type 1} → statement M
 put-register-spec =
     tie.close
     (tie.spec
-    put-number-requires
-    add-put-number
-    put-number-requires-2
-    mul-put-number
-    add-put-number-2
-    put-number-requires-3
+    write-at-requires
+    add-write-at
+    write-at-requires-2
+    mul-write-at
+    add-write-at-2
+    write-at-requires-3
     same-length
     returns
     returns-2)
