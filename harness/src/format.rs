@@ -30,6 +30,19 @@ pub fn read(file: &[u8]) -> Result<Netlist<'_>, Refusal> {
     Ok(Netlist { tables, nodes })
 }
 
+/// The offsets of a well-formed file's fields with their tags, by adding whole lengths up: tag,
+/// length and content. Behind the last of them the file ends.
+pub fn offsets(file: &[u8]) -> Result<Vec<(usize, u8)>, Refusal> {
+    let mut offsets = Vec::new();
+    let mut offset = 0;
+    while offset < file.len() {
+        let (tag, content) = field(file, offset)?;
+        offsets.push((offset, tag));
+        offset += HEADER + content.len();
+    }
+    Ok(offsets)
+}
+
 /// The tables from the offset on, and where the first field begins that is none.
 fn tables(file: &[u8], mut offset: usize) -> Result<(Vec<Table<'_>>, usize), Refusal> {
     let mut tables = Vec::new();

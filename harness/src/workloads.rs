@@ -41,6 +41,29 @@ pub fn filled() -> Design {
     design
 }
 
+/// The netlist with an input port straight before an asynchronous ROM besides: 12.
+pub fn with_port_debt(design: &Design) -> Design {
+    let mut design = design.clone();
+    let port = design.input(design.tables[0].address_bits);
+    let rom = design.async_rom(port, 0);
+    design.output(rom);
+    design
+}
+
+/// The netlist with a row of registers besides that many output ports read. Each wire gets
+/// registers of its own: 13, and not before all other wires are laid.
+pub fn with_too_many_registers(design: &Design) -> Design {
+    let mut design = design.clone();
+    let mut row = design.input(1);
+    for _ in 0..40 {
+        row = design.register(row, 0);
+    }
+    for _ in 0..40 {
+        design.output(row);
+    }
+    design
+}
+
 /// A chain of gates, each behind its source: the best order for a run.
 pub fn forward_chain(nodes: usize) -> Design {
     let mut design = Design::default();

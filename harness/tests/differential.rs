@@ -342,6 +342,43 @@ mod rewriting {
         tally.print("rewrite");
     }
 
+    /// The product's rewritten files field by field: by adding whole lengths up one comes from
+    /// the head to each table, each node and the end, and behind it to the answer.
+    #[test]
+    fn running_offsets() {
+        let mut random = Random::new(35);
+        let mut tally = Tally::default();
+        let files: Vec<Vec<u8>> = (0..3_000)
+            .map(|_| random::netlist(&mut random).file())
+            .collect();
+        for file in workload_files().into_iter().chain(files) {
+            let mut out = vec![0xa5; MAX_FILE];
+            let Ok(length) = product::rewrite(&file, &mut out) else {
+                continue;
+            };
+            tally.files += 1;
+            tally.bytes += length;
+            let tags = |file: &[u8]| -> Vec<u8> {
+                let offsets = format::offsets(file).expect("fields end where the file does");
+                offsets.into_iter().map(|(_, tag)| tag).collect()
+            };
+            // The tables' tags as they came, and as many nodes as the harness writes.
+            let mut own = vec![0; MAX_FILE];
+            let own_length = harness::rewrite(&file, &mut own).expect("accepted alike");
+            let nodes = format::read(&own[..own_length]).expect("well formed").nodes;
+            let old = tags(&file);
+            let tables = old.iter().filter(|&&tag| ![1, 3, 4].contains(&tag));
+            let fields = [1].iter().chain(tables).copied();
+            let fields = fields.chain(nodes.iter().map(|_| 3)).chain([4]);
+            assert!(
+                tags(&out[..length]) == fields.collect::<Vec<u8>>(),
+                "{}",
+                hex(&file)
+            );
+        }
+        tally.print("running offsets");
+    }
+
     /// The product's preview against the harness's, with a list as long as needed and one of
     /// another length, and against the product's own rewriting.
     fn compare_preview(tally: &mut Tally, random: &mut Random, file: &[u8]) {

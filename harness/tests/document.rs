@@ -2,6 +2,7 @@
 
 use harness::checks::checked;
 use harness::design::Design;
+use harness::format;
 use harness::netlist::{Kind, Netlist, Node};
 use harness::previewed::{compare_preview, Previewed};
 use harness::simulate::{outputs_len, state_len};
@@ -108,6 +109,10 @@ fn adder() {
         0x00, 0x01, 0x04, 0x00, 0x00,
     ];
     assert_eq!(rewritten(&old), Ok(new.to_vec()));
+    // Head, table, five nodes, end: each where the one before it ends.
+    let offsets = format::offsets(&new).expect("the new file is well formed");
+    let offsets: Vec<usize> = offsets.into_iter().map(|(offset, _)| offset).collect();
+    assert_eq!(offsets, [0, 4, 17, 27, 37, 44, 53, 62]);
     // The ROM, the adder, from which both registers come, and the port.
     size_is(&old, [1, 2, 65, 1], &[0, 2, 0]);
     outputs_are(&old, &[NO_INPUTS; 5], &[1, 2, 0, 3, 1]);

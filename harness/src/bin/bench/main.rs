@@ -3,13 +3,17 @@
 //!
 //! Each service of either side reads and checks the whole file anew at every call.
 
-use std::hint::black_box;
-use std::time::{Duration, Instant};
+mod compare;
+mod stack;
+#[cfg(feature = "rewrite")]
+mod stages;
 
+use std::hint::black_box;
+
+use compare::{compare, Comparison};
 use harness::design::Design;
 use harness::product;
-use harness::stack::stack_use;
-use harness::{workloads, Answer};
+use harness::workloads;
 
 #[cfg(feature = "run")]
 use harness::{
@@ -29,84 +33,13 @@ fn main() {
     #[cfg(feature = "run")]
     growth();
     #[cfg(feature = "rewrite")]
+    stages::stages(&workloads::typical());
+    #[cfg(feature = "rewrite")]
     rewriting();
     #[cfg(feature = "rewrite")]
     previewing();
     refused();
-    stack();
-}
-
-/// How long one call takes on either side, and the ratio between them: medians over rounds.
-struct Comparison {
-    product: f64,
-    harness: f64,
-    ratio: f64,
-}
-
-/// Lets the two take turns, in batches long enough to be timed.
-fn compare(mut product: impl FnMut(), mut harness: impl FnMut()) -> Comparison {
-    const ROUNDS: usize = 25;
-    const BATCH: Duration = Duration::from_millis(2);
-    const IN_ALL: Duration = Duration::from_secs(2);
-    let calls = |once: Duration| {
-        let calls = BATCH.as_nanos() / once.as_nanos().max(1);
-        calls.clamp(1, 10_000) as usize
-    };
-    // The first calls warm up, the second ones tell how many make a batch.
-    batch(1, &mut product);
-    batch(1, &mut harness);
-    let once = batch(1, &mut product);
-    let product_calls = calls(once);
-    let harness_calls = calls(batch(1, &mut harness));
-    let mut rounds = Vec::new();
-    let start = Instant::now();
-    while rounds.len() < 3 || (rounds.len() < ROUNDS && start.elapsed() < IN_ALL) {
-        let product = batch(product_calls, &mut product).as_secs_f64() / product_calls as f64;
-        let harness = batch(harness_calls, &mut harness).as_secs_f64() / harness_calls as f64;
-        rounds.push((product, harness));
-    }
-    Comparison {
-        product: median(rounds.iter().map(|(product, _)| *product)),
-        harness: median(rounds.iter().map(|(_, harness)| *harness)),
-        ratio: median(rounds.iter().map(|(product, harness)| product / harness)),
-    }
-}
-
-fn batch(calls: usize, call: &mut impl FnMut()) -> Duration {
-    let start = Instant::now();
-    for _ in 0..calls {
-        call();
-    }
-    start.elapsed()
-}
-
-fn median(values: impl Iterator<Item = f64>) -> f64 {
-    let mut values: Vec<f64> = values.collect();
-    values.sort_by(f64::total_cmp);
-    values[values.len() / 2]
-}
-
-impl Comparison {
-    fn print(&self, name: &str) {
-        println!("{}", self.line(name));
-    }
-
-    fn line(&self, name: &str) -> String {
-        let Comparison {
-            product,
-            harness,
-            ratio,
-        } = self;
-        let (product, harness) = (time(*product), time(*harness));
-        format!("  {name:<36} product {product}  harness {harness}  ratio {ratio:7.2}")
-    }
-}
-
-fn time(seconds: f64) -> String {
-    match seconds < 1e-3 {
-        true => format!("{:8.2} us", seconds * 1e6),
-        false => format!("{:8.2} ms", seconds * 1e3),
-    }
+    stack::stack(refused_cases().into_iter().map(|(_, file)| file));
 }
 
 fn compare_check(file: &[u8]) -> Comparison {
@@ -273,99 +206,4 @@ fn refused() {
         assert_eq!(product::check(&file), harness::check(&file));
         compare_check(&file).print(name);
     }
-}
-
-/// A file and all that its services want to be lent.
-struct Lent {
-    file: Vec<u8>,
-    #[cfg(feature = "run")]
-    state: Vec<u8>,
-    #[cfg(feature = "run")]
-    inputs: Vec<u8>,
-    #[cfg(feature = "run")]
-    outputs: Vec<u8>,
-    #[cfg(feature = "rewrite")]
-    out: Vec<u8>,
-    #[cfg(feature = "rewrite")]
-    by_source: Vec<u8>,
-}
-
-impl Lent {
-    fn new(file: Vec<u8>) -> Self {
-        #[cfg(feature = "run")]
-        let [state, inputs, outputs] = match checked(&file) {
-            Ok(checked) => [state_len, inputs_len, outputs_len].map(|len| vec![0; len(&checked)]),
-            Err(_) => [(); 3].map(|()| Vec::new()),
-        };
-        Lent {
-            file,
-            #[cfg(feature = "run")]
-            state,
-            #[cfg(feature = "run")]
-            inputs,
-            #[cfg(feature = "run")]
-            outputs,
-            #[cfg(feature = "rewrite")]
-            out: vec![0; MAX_FILE],
-            #[cfg(feature = "rewrite")]
-            by_source: vec![0; MAX_LIST],
-        }
-    }
-}
-
-/// The deepest stack of each service over the typical netlist and the worst cases.
-fn stack() {
-    type Call = fn(&mut Lent) -> Answer;
-    println!("stack, the deepest of all these files");
-    let designs = [
-        workloads::typical(),
-        workloads::forward_chain(1_000),
-        workloads::backward_chain(1_000),
-        workloads::deep_registers(),
-        workloads::deep_shared_registers(),
-        workloads::long_relaxation(),
-        workloads::largest_leads(),
-        workloads::closed_debt(),
-    ];
-    let refused = refused_cases().map(|(_, file)| file);
-    let files = designs.iter().map(Design::file).chain(refused);
-    let mut lent: Vec<Lent> = files.map(Lent::new).collect();
-    let mut print = |service: &str, product: Call, harness: Call| {
-        let [product, harness] = [product, harness].map(|call| {
-            let each = lent
-                .iter_mut()
-                .map(|lent| stack_use(|| _ = black_box(call(lent))));
-            each.max().unwrap_or(0) as f64 / 1024.0
-        });
-        println!("  {service:<36} product {product:7.1} KiB  harness {harness:7.1} KiB");
-    };
-    print(
-        "check",
-        |l| product::check(&l.file),
-        |l| harness::check(&l.file),
-    );
-    #[cfg(feature = "run")]
-    print(
-        "reset",
-        |l| product::reset(&l.file, &mut l.state),
-        |l| harness::reset(&l.file, &mut l.state),
-    );
-    #[cfg(feature = "run")]
-    print(
-        "run",
-        |l| product::run(&l.file, &mut l.state, &l.inputs, &mut l.outputs),
-        |l| harness::run(&l.file, &mut l.state, &l.inputs, &mut l.outputs),
-    );
-    #[cfg(feature = "rewrite")]
-    print(
-        "rewrite",
-        |l| product::rewrite(&l.file, &mut l.out),
-        |l| harness::rewrite(&l.file, &mut l.out),
-    );
-    #[cfg(feature = "rewrite")]
-    print(
-        "preview",
-        |l| product::preview(&l.file, &mut l.by_source).map(|size| size.length),
-        |l| harness::preview(&l.file, &mut l.by_source).map(|size| size.length),
-    );
 }
