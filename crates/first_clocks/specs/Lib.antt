@@ -1,4 +1,4 @@
-pub mod Back
+pub mod Holders
 pub mod Queue
 pub mod Wanted
 pub mod ZeroRun

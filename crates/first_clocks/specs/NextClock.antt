@@ -56,17 +56,17 @@ held-all N words next m s l v h e =
 -- ---- words put by the numbers of their nodes
 
 -- those of the first n members; all others stay
-pub record Stored (members next before after : List ℕ) (n : ℕ) : Type 0 where
+pub record Renewed (members next before after : List ℕ) (n : ℕ) : Type 0 where
   pub kept : length after ≡ length before
   pub given : (i : ℕ) → i < n → getD members i 0 < length before → getD after (getD members i 0) 0 ≡ getD next (getD members i 0) 0
   pub others : (v : ℕ) → ((i : ℕ) → i < n → getD members i 0 ≡ v → ⊥) → getD after v 0 ≡ getD before v 0
 
 module _ (members next before : List ℕ) where
-  pub stored-none : Stored members next before before 0
-  stored-none = record { kept = refl; given = λ i l. absurd (not-suc-le-zero l); others = λ v h. refl }
+  pub renewed-none : Renewed members next before before 0
+  renewed-none = record { kept = refl; given = λ i l. absurd (not-suc-le-zero l); others = λ v h. refl }
 
-  pub stored-more : {mid after : List ℕ} {n v : ℕ} → Stored members next before mid n → v ≡ getD members n 0 → after ≡ set mid v (getD next v 0) → Stored members next before after (n + 1)
-  stored-more {mid} {after} {n} {v} s is e = record {
+  pub renewed-more : {mid after : List ℕ} {n v : ℕ} → Renewed members next before mid n → v ≡ getD members n 0 → after ≡ set mid v (getD next v 0) → Renewed members next before after (n + 1)
+  renewed-more {mid} {after} {n} {v} s is e = record {
     kept = ap length e ∙ length-set mid v (getD next v 0) ∙ s .kept;
     given = λ i l h. ap (λ (x : List ℕ). getD x (getD members i 0) 0) e ∙ put (getD members i 0) h (λ d. ⊎-elim (λ y. s .given i y h) (λ y. absurd (d (ap (λ (k : ℕ). getD members k 0) y ∙ sym is))) (lt-suc-split (let z : i < suc n = omega arith in z)));
     others = λ u h. ap (λ (x : List ℕ). getD x u 0) e ∙ getD-set-other mid v u (getD next v 0) 0 (λ q. h n (omega arith) (sym is ∙ sym q)) ∙ s .others u (λ i l. h i (omega arith));
@@ -82,7 +82,7 @@ module _ (members next before : List ℕ) where
 -- ---- the next clock begins with what is held then; input ports keep their 0
 
 module _ (N : Net) (wf : WellFormed N) (t : ℕ) {members ws next ws′ : List ℕ} (m : members ≡ rowMembers State N) (long : size N ≤ length ws) (w : WordsAt N t ws)
-    (n : (v : ℕ) → v < size N → rowTest State N v ≡ true → getD next v 0 ≡ nextWord N ws v) (s : Stored members next ws ws′ (length members)) where
+    (n : (v : ℕ) → v < size N → rowTest State N v ≡ true → getD next v 0 ≡ nextWord N ws v) (s : Renewed members next ws ws′ (length members)) where
   held : (v : ℕ) → v < size N → holdsWord (elementAt N v) ≡ true → getD ws′ v 0 ≡ zeroWord N (t + 1) v
   held v h e =
       let r = listed N m v h e in

@@ -5,12 +5,12 @@ use mathlib.Core.List.{List}
 use Prim.Native.Nat.{ℕ, _+_, _%_, _≤_, _<_}
 use native.Mathlib.Nat.{not-suc-le-zero, zero-lt-suc, mod-lt}
 use native.Mathlib.Omega.{arith}
-use lib.ListN.{length, getD, set, replicate, getD-replicate, length-replicate, length-set}
+use lib.ListN.{length, getD, set, replicate, getD-replicate, length-set}
 use lib.Seq.{getD-set-same, getD-set-other}
 use borrow.Author.Count.{below-more}
 use Rattle.lists.specs.BelowLaws.{lt-or-le}
 use Rattle.lists.specs.Sections.{section, section-length, section-replicate, section-read, section-put, section-before, section-after}
-use Rattle.lists.specs.Linked.{From, LinkedFrom, linked-past, linked-more, linked-as}
+use Rattle.lists.specs.Linked.{From, LinkedFrom, linked-none, linked-past, linked-more, linked-as}
 
 -- the sections of its area: the first place of each slot, the next place behind each, and when the word of each is due
 abbrev pub slotsIn : List ℕ → List ℕ
@@ -39,16 +39,10 @@ pub dues-none : (j : ℕ) → j < 3072 → getD (duesIn (replicate 7168 65535)) 
 dues-none j h = ap (λ (l : List ℕ). getD l j 0) (section-replicate 4096 3072 7168 65535 (omega arith)) ∙ getD-replicate {A = ℕ} 3072 j 65535 0 h
 
 pub queued-none : (k : ℕ) → Queued (replicate 7168 65535) k
-queued-none k = record {
-  first = λ b l. record { none = λ j a i h e. absurd (omega (arith, dues-none j h, e .0)); here = λ h. absurd (omega (arith, far b l)) };
-  next = λ j b a h l e. absurd (omega (arith, dues-none j h, e .0));
-}
-  where
-    slots : slotsIn (replicate 7168 65535) ≡ replicate 1024 65535
-    slots = section-replicate 0 1024 7168 65535 (omega arith)
-
-    far : (b : ℕ) → b < length (slotsIn (replicate 7168 65535)) → getD (slotsIn (replicate 7168 65535)) b 0 ≡ 65535
-    far b l = ap (λ (y : List ℕ). getD y b 0) slots ∙ getD-replicate {A = ℕ} 1024 b 65535 0 (omega (arith, ap length slots, length-replicate {A = ℕ} 1024 65535))
+queued-none k =
+    let none : List ℕ = replicate 7168 65535 in
+    subst (λ (l : List ℕ). LinkedFrom (InSlot (duesIn none)) 3072 l (nextsIn none) k) (sym (section-replicate 0 1024 7168 65535 (omega arith)))
+    (linked-none (InSlot (duesIn none)) 3072 1024 65535 (nextsIn none) k (omega arith) (λ j b a h e. omega (arith, dues-none j h, e .0)))
 
 -- a place is put first in the slot of its clock
 pub record Enqueued (before : List ℕ) (due k : ℕ) (after : List ℕ) : Type 0 where
@@ -126,13 +120,13 @@ module _ (dues : List ℕ) (t : ℕ) (words before : List ℕ) where
     }
 
 -- along the chain of a slot: k is the next place of it, and all before it are looked at; or there is none, and all are
-pub record Walk (queue : List ℕ) (t : ℕ) (words before after : List ℕ) (k : ℕ) : Type 0 where
+pub record AlongSlot (queue : List ℕ) (t : ℕ) (words before after : List ℕ) (k : ℕ) : Type 0 where
   pub here : k < 3072 → InSlot (duesIn queue) k (t % 1024) × TakenTo (duesIn queue) t words before after k
   pub done : 3072 ≤ k → TakenTo (duesIn queue) t words before after 3072
 
 module _ (queue : List ℕ) {t : ℕ} (small : t < 65535) {words before mid : List ℕ} {i : ℕ} (low : i ≤ 3072) (s : TakenTo (duesIn queue) t words before mid i) where
-  pub walk-on : {r : ℕ} → From (InSlot (duesIn queue)) 3072 (t % 1024) i r → Walk queue t words before mid r
-  walk-on {r} f = record {
+  pub along-slot : {r : ℕ} → From (InSlot (duesIn queue)) 3072 (t % 1024) i r → AlongSlot queue t words before mid r
+  along-slot {r} f = record {
     here = λ l. (f .here l .1, look-past (duesIn queue) t words before s r (f .here l .0) (λ k h j q. f .none k h j (omega arith) (due k q)));
     done = λ l. look-past (duesIn queue) t words before s 3072 low (λ k h j q. f .none k h (omega arith) j (due k q));
   }

@@ -36,7 +36,7 @@ ghost use Rattle.wires.specs.Traced.{rootsIn, passesIn, AllTraced};
 ghost use Rattle.first_clocks.specs.Queue.{duesIn, Queued, QueuedWithin};
 ghost use Rattle.first_clocks.specs.Wanted.{OfNodes, Taken, WordsAt, OfClock, NamedFrom, Asked, TakenBefore};
 ghost use Rattle.first_clocks.specs.ZeroRun.{Begins, Loads};
-ghost use Rattle.first_clocks.specs.NextClock.{Stored};
+ghost use Rattle.first_clocks.specs.NextClock.{Renewed};
 
 // The queue's words: see queue.rt.
 pub const QUEUE: usize = 7168;
@@ -97,7 +97,7 @@ fn hold_next(file: &[u8], net: &[u16], members: &[u16], words: &[u16], next: &mu
 
 // Puts them in the place of those of this clock.
 fn store_next(members: &[u16], next: &[u16], words: &mut [u16])
-    ensures { λ _. ⌜ Stored (now (members .entry)) (now (next .entry)) (now (words .entry)) (now (words .exit)) (length (now (members .entry))) ⌝ }
+    ensures { λ _. ⌜ Renewed (now (members .entry)) (now (next .entry)) (now (words .entry)) (now (words .exit)) (length (now (members .entry))) ⌝ }
 {
     let mut i: usize = 0;
     while i < members.len() {

@@ -19,11 +19,11 @@ module _ (In : ℕ → ℕ → Type 0) (n : ℕ) where
     pub first : (b : ℕ) → b < length heads → From b k (getD heads b 0)
     pub next : (j b : ℕ) → k ≤ j → j < n → b < length heads → In j b → From b (j + 1) (getD links j 0)
 
-  -- no place is, where no head is one
-  pub linked-none : (m far : ℕ) (links : List ℕ) → n ≤ far → LinkedFrom (replicate m far) links n
-  linked-none m far links h = record {
-    first = λ b l. record { none = λ j a i d. absurd (omega arith); here = λ i. absurd (omega (arith, getD-replicate {A = ℕ} m b far 0 (omega (arith, length-replicate {A = ℕ} m far)))) };
-    next = λ j b a i. absurd (omega arith);
+  -- where none of them is in a chain, and no head is a place
+  pub linked-none : (m far : ℕ) (links : List ℕ) (k : ℕ) → n ≤ far → ((j b : ℕ) → k ≤ j → j < n → In j b → ⊥) → LinkedFrom (replicate m far) links k
+  linked-none m far links k h d = record {
+    first = λ b l. record { none = λ j a i e. d j b a e; here = λ i. absurd (omega (arith, getD-replicate {A = ℕ} m b far 0 (omega (arith, length-replicate {A = ℕ} m far)))) };
+    next = λ j b a i l e. absurd (d j b a i e);
   }
 
   -- linking goes from the last place back

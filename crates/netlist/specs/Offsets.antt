@@ -1,13 +1,13 @@
 -- The fields of a netlist's file, and the offset of each: document 02, T-04. Assumes nothing.
 use mathlib.Core.Path.{_≡_, refl, sym, ap, ap₂, _∙_}
-use mathlib.Core.List.{List, [], _∷_, _++_, map, append-assoc, append-nil}
+use mathlib.Core.List.{List, [], _∷_, _++_, map, append-assoc}
 use Prim.Native.Nat.{ℕ, suc, _+_, _≤_, _<_}
 use native.Mathlib.Omega.{arith}
 use lib.ListN.{length, getD, take, drop, length-append, length-map, List·getD-append, take-append-drop}
-use lib.Seq.{take-suc, take-all, drop-cons, drop-append-seam, getD-append-add, getD-append-seam}
+use lib.Seq.{take-all, drop-cons, drop-append-seam, getD-append-add, getD-append-seam}
 use Rattle.lists.specs.Lists.{concatMap, total}
 use Rattle.lists.specs.BelowLaws.{getD-map-lt}
-use Rattle.lists.specs.ListsLaws.{concatMap-append}
+use Rattle.lists.specs.ListsLaws.{concatMap-append, concatMap-next, concatMap-map}
 use Rattle.lists.specs.TotalLaws.{length-concatMap}
 use Rattle.netlist.specs.Net.{Net, noTable, nowhere, size, nodeAt}
 use Rattle.netlist.specs.Field.{field}
@@ -25,10 +25,6 @@ unfoldable pub offsetOf : Net → ℕ → ℕ
 offsetOf N k = total (map length (take k (fieldsOf N)))
 
 -- ---- which field is which
-
-concat-map : {A : Type 0} (f : A → List ℕ) (xs : List A) → concatMap (λ b. b) (map f xs) ≡ concatMap f xs
-concat-map f [] = refl
-concat-map f (x ∷ xs) = ap (λ (l : List ℕ). f x ++ l) (concat-map f xs)
 
 module _ (N : Net) where
   abbrev tables : List (List ℕ)
@@ -71,7 +67,7 @@ module _ (N : Net) where
   unfolding fieldsOf encode
   fields-file =
       ap (λ (l : List ℕ). field 1 (1 ∷ []) ++ l)
-      (concatMap-append (λ b. b) tables (nodes ++ (field 4 [] ∷ [])) ∙ ap₂ _++_ (concat-map tableBytes (N .tables)) (concatMap-append (λ b. b) nodes (field 4 [] ∷ []) ∙ ap (λ (l : List ℕ). l ++ field 4 []) (concat-map nodeBytes (N .nodes))))
+      (concatMap-append (λ b. b) tables (nodes ++ (field 4 [] ∷ [])) ∙ ap₂ _++_ (concatMap-map tableBytes (N .tables)) (concatMap-append (λ b. b) nodes (field 4 [] ∷ []) ∙ ap (λ (l : List ℕ). l ++ field 4 []) (concatMap-map nodeBytes (N .nodes))))
       ∙ simp append-assoc
 
   -- ---- the offset, from field to field
@@ -85,11 +81,8 @@ module _ (N : Net) where
 
   pub offset-next : (k : ℕ) → k < length (fieldsOf N) → offsetOf N (k + 1) ≡ offsetOf N k + length (fieldAt N k)
   offset-next k h =
-      let e : k + 1 ≡ suc k = omega arith in
-      offset-length (k + 1) ∙ ap (λ (j : ℕ). length (concatMap (λ b. b) (take j (fieldsOf N)))) e
-      ∙ ap (λ (l : List (List ℕ)). length (concatMap (λ b. b) l)) (take-suc (fieldsOf N) k [] h)
-      ∙ ap length (concatMap-append (λ b. b) (take k (fieldsOf N)) (fieldAt N k ∷ []) ∙ ap (λ (l : List ℕ). concatMap (λ b. b) (take k (fieldsOf N)) ++ l) (append-nil (fieldAt N k)))
-      ∙ length-append (concatMap (λ b. b) (take k (fieldsOf N))) (fieldAt N k) ∙ ap (λ (n : ℕ). n + length (fieldAt N k)) (sym (offset-length k))
+      offset-length (k + 1) ∙ ap length (concatMap-next (λ b. b) (fieldsOf N) k [] h) ∙ length-append (concatMap (λ b. b) (take k (fieldsOf N))) (fieldAt N k)
+      ∙ ap (λ (n : ℕ). n + length (fieldAt N k)) (sym (offset-length k))
 
   pub offset-last : offsetOf N (length (fieldsOf N)) ≡ length (encode N)
   offset-last = offset-length (length (fieldsOf N)) ∙ ap (λ (l : List (List ℕ)). length (concatMap (λ b. b) l)) (take-all (length (fieldsOf N)) (fieldsOf N) (omega arith)) ∙ ap length fields-file

@@ -44,7 +44,7 @@ module _ (ends clocks : List ℕ) (wires : ℕ) where
     pub chains : linked.LinkedFrom (Listed ends clocks) wires heads links k
 
   pub linked-none : wires ≤ 3072 → LinkedFrom (replicate 1024 65535) clocks wires
-  linked-none h = record { many = length-replicate {A = ℕ} 1024 65535; kept = λ j l. refl; chains = linked.linked-none (Listed ends clocks) wires 1024 65535 clocks (omega arith) }
+  linked-none h = record { many = length-replicate {A = ℕ} 1024 65535; kept = λ j l. refl; chains = linked.linked-none (Listed ends clocks) wires 1024 65535 clocks wires (omega arith) (λ j u a i. absurd (omega arith)) }
 
   module _ {heads links : List ℕ} {w : ℕ} (h : w < wires) (t : LinkedFrom heads links (w + 1)) where
     clock-here : getD links w 0 ≡ getD clocks w 0

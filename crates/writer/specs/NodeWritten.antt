@@ -13,11 +13,11 @@ use Rattle.netlist.specs.declared.Node.{Node}
 use Rattle.netlist.specs.Net.{operands}
 use Rattle.netlist.specs.NodeField.{kindOf, opNumber, opExtra, beforeSources, afterSources, sourceBytes, nodeContent}
 use Rattle.netlist.specs.File.{nodeBytes}
-use Rattle.codec.specs.ContentLength.{few-sources, length-sources, length-parts, sources-more}
+use Rattle.codec.specs.ContentLength.{content-sum, length-content, sources-more}
 
--- the length of the content: kind and width, what stands around the sources, and two bytes for each source
-abbrev pub size : Element → ℕ
-size e = 2 + length (beforeSources e ++ afterSources e) + 2 * operands e
+-- the length of the content, as an arm of the writer works it out: kind and width, what stands around the sources, and two bytes for each source
+abbrev pub contentSum : Element → ℕ
+contentSum e = 2 + length (beforeSources e ++ afterSources e) + 2 * operands e
 
 -- a field of this length, of an element, of a width, with these bytes for its sources
 abbrev laid : ℕ → Element → ℕ → List ℕ → List ℕ
@@ -25,29 +25,21 @@ laid n e w s = 3 ∷ bytes n ++ kindOf e ∷ w ∷ beforeSources e ++ s ++ after
 
 -- for each arm of the writer, which knows the element: the room that the field takes, and that what the arm writes is the field
 module _ (x : Node) (three : length (x .sources) ≡ 3) {e : Element} (known : x .element ≡ e) where
-  sized : length (nodeContent x) ≡ size e
-  sized =
-      let few = few-sources (x .element) in
-      omega (
-        arith,
-        length-parts x,
-        length-sources (operands (x .element)) (x .sources) (omega arith),
-        length-append (beforeSources (x .element)) (afterSources (x .element)),
-        ap size known,
-      )
+  sized : length (nodeContent x) ≡ contentSum e
+  sized = omega (arith, length-content x three, content-sum (x .element), length-append (beforeSources (x .element)) (afterSources (x .element)), ap contentSum known)
 
-  pub node-room : length (nodeBytes x) ≡ 3 + size e
+  pub node-room : length (nodeBytes x) ≡ 3 + contentSum e
   node-room = omega (arith, sized)
 
-  pub node-laid : laid (size e) e (x .width) (sourceBytes (operands e) (x .sources)) ≡ nodeBytes x
+  pub node-laid : laid (contentSum e) e (x .width) (sourceBytes (operands e) (x .sources)) ≡ nodeBytes x
   unfolding nodeContent
   node-laid = ap₂ (λ (n : ℕ) (y : Element). laid n y (x .width) (sourceBytes (operands y) (x .sources))) (sym sized) (sym known)
 
   -- with one source
-  pub one-source-laid : operands e ≡ 1 → laid (size e) e (x .width) (bytes (getD (x .sources) 0 0)) ≡ nodeBytes x
+  pub one-source-laid : operands e ≡ 1 → laid (contentSum e) e (x .width) (bytes (getD (x .sources) 0 0)) ≡ nodeBytes x
   one-source-laid one =
       let source = ap (λ (n : ℕ). sourceBytes n (x .sources)) one ∙ sources-more (x .sources) 0 (omega arith) in
-      ap (laid (size e) e (x .width)) (sym source) ∙ node-laid
+      ap (laid (contentSum e) e (x .width)) (sym source) ∙ node-laid
 
 -- a gate as a node
 abbrev pub gate : Op → ℕ → List ℕ → Node

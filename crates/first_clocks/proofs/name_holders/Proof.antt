@@ -7,7 +7,7 @@ use lib.ListN.{length, getD, set, replicate}
 use Rattle.lists.specs.Sections.{section-length}
 use Rattle.behaviour.specs.Run.{zeroWord}
 use Rattle.circuit.specs.Circuit.{netOf}
-use Rattle.first_clocks.specs.Back.{Back, Remembered}
+use Rattle.first_clocks.specs.Holders.{Holder, Remembered}
 use Rattle.first_clocks.specs.Queue.{duesIn, dues-none, Queued, queued-none, queued-past, queued-more}
 use Rattle.first_clocks.specs.Wanted.{NamedFrom, named-none, named-idle, named-more}
 use borrow.Author.Needs.{needs}
@@ -130,7 +130,7 @@ loop-again-2 c =
       omega (arith, s .inv .0),
       c .before .before .before .before .enqueue .kept .1 .1 .0 ∙ s .inv .1,
       u .2 (s .inv .2),
-      λ l. subst (λ (x : ℕ). Back N x (h .result .back) (h .result .holder)) (sym (h .ensures .1)) b,
+      λ l. subst (λ (x : ℕ). Holder N x (h .result .back) (h .result .holder)) (sym (h .ensures .1)) b,
       subst (λ (l : List ℕ). NamedFrom N (a .clocks .now) (a .wanted .now) (a .found .now) (duesIn (c .before .before .before .before .enqueue .last .1 .1 .0)) l (c .until .result) k) (sym (c .before .before .before .before .before .before .before .before .write-at .ensures))
           (subst (λ (l : List ℕ). NamedFrom N (a .clocks .now) (a .wanted .now) (a .found .now) l (set (s .found) k (h .result .holder)) (c .until .result) k) (sym (q .dues)) more),
       queued-more (s .queue) (s .inv .1) (omega (arith, p .1 .4)) (subst (Queued (s .queue)) e (s .inv .5)) (omega arith) q,

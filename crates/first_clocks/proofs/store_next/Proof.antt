@@ -3,19 +3,19 @@ use mathlib.Core.Path.{_≡_, ap, subst, _∙_}
 use Prim.Native.Nat.{_-_, _≤_}
 use native.Mathlib.Omega.{arith}
 use lib.ListN.{length, set}
-use Rattle.first_clocks.specs.NextClock.{Stored, stored-none, stored-more}
+use Rattle.first_clocks.specs.NextClock.{Renewed, renewed-none, renewed-more}
 use borrow.Author.Needs.{needs}
 use Rattle.first_clocks.proofs.store_next.Statement.{statement}
 use Rattle.first_clocks.proofs.store_next.Tie as tie
 
 abbrev Inv-loop : tie.InvT-loop
-Inv-loop members next words₀ i₀ words i = (i ≤ length members) × Stored members next words₀ words i
+Inv-loop members next words₀ i₀ words i = (i ≤ length members) × Renewed members next words₀ words i
 
 abbrev μ-loop : tie.MeasureT-loop
 μ-loop members next words₀ i₀ words i = length members - i
 
 loop-holds : tie.Need-loop-holds Inv-loop μ-loop
-loop-holds c = (omega arith, stored-none _ _ _)
+loop-holds c = (omega arith, renewed-none _ _ _)
 
 mul-wide : tie.Need-mul-wide Inv-loop μ-loop
 mul-wide c = search needs
@@ -43,7 +43,7 @@ loop-again c =
     let a = c .before .before .before .before .before .before .before .before .before .before .before .before .args in
     let s = c .before .before .before .before .before .before .before .before .loop in (
       omega (arith, c .before .before .before .before .before .before .before .loop-test .taken),
-      stored-more (a .members .now) (a .next .now) (a .words .now) (s .inv .1) (c .before .before .before .before .before .wide .ensures .0) (c .before .before .put-number .ensures ∙ ap (set (s .words) (c .before .before .before .before .before .wide .result)) (c .before .before .before .number-at .ensures)),
+      renewed-more (a .members .now) (a .next .now) (a .words .now) (s .inv .1) (c .before .before .before .before .before .wide .ensures .0) (c .before .before .put-number .ensures ∙ ap (set (s .words) (c .before .before .before .before .before .wide .result)) (c .before .before .before .number-at .ensures)),
     )
 
 same-length : tie.Need-same-length Inv-loop μ-loop
@@ -53,7 +53,7 @@ returns : tie.Need-returns Inv-loop μ-loop
 returns c =
     let a = c .before .before .before .before .before .args in
     let e : c .before .loop .i ≡ length (a .members .now) = omega (arith, c .before .loop .inv .0, c .loop-test .left) in
-    subst (Stored (a .members .now) (a .next .now) (a .words .now) (c .before .loop .words)) e (c .before .loop .inv .1)
+    subst (Renewed (a .members .now) (a .next .now) (a .words .now) (c .before .loop .words)) e (c .before .loop .inv .1)
 
 pub store-next-spec : {M : Type 1} → statement M
 store-next-spec =

@@ -1,11 +1,8 @@
 -- The loop's invariant: the first k fields stand at the front, and the offset behind them is carried.
-use mathlib.Core.Path.{refl}
-use mathlib.Core.List.{[]}
 use Prim.Native.Nat.{_-_}
 use native.Mathlib.Omega.{arith}
 use Rattle.circuit.specs.Circuit.{netOf}
-use Rattle.saving.specs.Firsts.{writing-more}
-use Rattle.saving.specs.Encoded.{Carrying, carrying-none, carried, file-written}
+use Rattle.saving.specs.Encoded.{Carrying, carrying-none, carried, carrying-more, file-written}
 use borrow.Author.Needs.{needs}
 use Rattle.saving.proofs.write_circuit.Statement.{statement}
 use Rattle.saving.proofs.write_circuit.Tie as tie
@@ -20,7 +17,7 @@ field-count-requires : tie.Need-field-count-requires Inv-loop μ-loop
 field-count-requires c κs = search needs
 
 loop-holds : tie.Need-loop-holds Inv-loop μ-loop
-loop-holds c = let a = c .before .before .before .before .args in carrying-none (netOf (a .file .now) (a .net .now)) (c .before .before .before .before .pre .1)
+loop-holds c = let a = c .before .before .before .before .args in carrying-none (netOf (a .file .now) (a .net .now))
 
 put-field-requires : tie.Need-put-field-requires Inv-loop μ-loop
 put-field-requires c κs =
@@ -37,7 +34,8 @@ loop-less c = search needs
 
 loop-again : tie.Need-loop-again Inv-loop μ-loop
 loop-again c =
-    writing-more (c .before .before .before .before .before .loop .inv) [] (omega (arith, c .before .before .before .before .loop-test .taken, c .before .before .before .before .before .before .field-count .ensures .0)) refl (c .before .before .put-field .kept .1 .1 .1 .0) (c .before .before .put-field .ensures .0)
+    let a = c .before .before .before .before .before .before .before .before .before .before .args in
+    carrying-more (netOf (a .file .now) (a .net .now)) (c .before .before .before .before .before .loop .inv) (omega (arith, c .before .before .before .before .loop-test .taken, c .before .before .before .before .before .before .field-count .ensures .0)) (c .before .before .put-field .kept .1 .1 .1 .0) (c .before .before .put-field .ensures .0)
 
 same-length : tie.Need-same-length Inv-loop μ-loop
 same-length c = c .before .loop .inv .kept

@@ -9,7 +9,7 @@ use Rattle.netlist.specs.declared.Node.{Node}
 use Rattle.netlist.specs.File.{nodeBytes}
 use Rattle.codec.specs.ContentLength.{few-sources}
 use Rattle.writer.specs.Written.{puts-as, puts-more}
-use Rattle.writer.specs.NodeWritten.{gate, size, node-room, node-laid, one-source-laid, bare-laid}
+use Rattle.writer.specs.NodeWritten.{gate, contentSum, node-room, node-laid, one-source-laid, bare-laid}
 use Rattle.writer.proofs.Cases.{no-extra}
 use borrow.Author.Needs.{needs}
 use Rattle.writer.proofs.put_gate.Statement.{statement}
@@ -22,7 +22,7 @@ node s = gate (s .args .op) (s .args .width) (s .args .t5)
 three : (s : tie.Start) → length (node s .sources) ≡ 3
 three s = search needs
 
-room : (s : tie.Start) {o : Op} → s .args .op ≡ o → length (nodeBytes (node s)) ≡ 3 + size (Gate o)
+room : (s : tie.Start) {o : Op} → s .args .op ≡ o → length (nodeBytes (node s)) ≡ 3 + contentSum (Gate o)
 room s known = node-room (node s) (three s) (ap Gate known)
 
 few : (c : tie.After-op-sources) → c .op-sources .result ≤ 3

@@ -9,7 +9,7 @@ use Rattle.netlist.specs.declared.Element.the-variants.{Gate}
 use Rattle.netlist.specs.declared.Node.{Node}
 use Rattle.netlist.specs.File.{nodeBytes}
 use Rattle.writer.specs.Written.{puts-as, puts-more}
-use Rattle.writer.specs.NodeWritten.{gate, size, node-room, node-laid, one-source-laid}
+use Rattle.writer.specs.NodeWritten.{gate, contentSum, node-room, node-laid, one-source-laid}
 use borrow.Author.Needs.{needs}
 use Rattle.writer.proofs.put_node.Statement.{statement}
 use Rattle.writer.proofs.put_node.Tie as tie
@@ -21,7 +21,7 @@ node s = s .args .node
 three : (s : tie.Start) → length (node s .sources) ≡ 3
 three s = search needs
 
-room : (s : tie.Start) {e : Element} → node s .element ≡ e → length (nodeBytes (node s)) ≡ 3 + size e
+room : (s : tie.Start) {e : Element} → node s .element ≡ e → length (nodeBytes (node s)) ≡ 3 + contentSum e
 room s known = node-room (node s) (three s) known
 
 as-gate : (s : tie.Start) {o : Op} → node s .element ≡ Gate o → nodeBytes (gate o (node s .width) (node s .sources)) ≡ nodeBytes (node s)

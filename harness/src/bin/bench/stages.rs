@@ -4,8 +4,8 @@
 use std::hint::black_box;
 
 use crate::compare::{compare, time, Comparison};
+use crate::{compare_check, compare_rewrite};
 use harness::design::Design;
-use harness::format::MAX_FILE;
 use harness::refusal::{GROWN, OUT, PORT_DEBT};
 use harness::{product, workloads};
 
@@ -14,11 +14,11 @@ pub fn stages(design: &Design) {
     let owing = workloads::with_port_debt(design).file();
     let growing = workloads::with_too_many_registers(design).file();
 
-    let open = check(&file);
-    let leads = less(refused(&owing, PORT_DEBT), &[check(&owing)]);
-    let plan = less(refused(&growing, GROWN), &[check(&growing), leads]);
+    let open = compare_check(&file);
+    let leads = less(refused(&owing, PORT_DEBT), &[compare_check(&owing)]);
+    let plan = less(refused(&growing, GROWN), &[compare_check(&growing), leads]);
     let all_but_writing = refused(&file, OUT);
-    let all = written(&file);
+    let all = compare_rewrite(&file);
     let rows = [
         ("open: 1 to 10", open),
         ("leads: 11, 12", leads),
@@ -42,7 +42,7 @@ pub fn stages(design: &Design) {
 fn linear() {
     let [(small, few), (large, many)] = [100, 1_000].map(|nodes| {
         let file = workloads::forward_chain(nodes).file();
-        let writing = less(written(&file), &[refused(&file, OUT)]);
+        let writing = less(compare_rewrite(&file), &[refused(&file, OUT)]);
         (writing, file.len())
     });
     println!(
@@ -53,30 +53,12 @@ fn linear() {
     );
 }
 
-fn check(file: &[u8]) -> Comparison {
-    let product = || _ = black_box(product::check(black_box(file)));
-    let harness = || _ = black_box(harness::check(black_box(file)));
-    compare(product, harness)
-}
-
 /// A rewriting into no output, which ends with this refusal.
 fn refused(file: &[u8], number: u16) -> Comparison {
     let answer = product::rewrite(file, &mut []);
     assert!(answer.is_err_and(|refusal| refusal.number == number));
-    into(file, 0)
-}
-
-/// A rewriting that is accepted.
-fn written(file: &[u8]) -> Comparison {
-    assert!(product::rewrite(file, &mut [0; MAX_FILE]).is_ok());
-    into(file, MAX_FILE)
-}
-
-fn into(file: &[u8], length: usize) -> Comparison {
-    let mut own = vec![0; length];
-    let mut other = own.clone();
-    let product = || _ = black_box(product::rewrite(black_box(file), &mut other));
-    let harness = || _ = black_box(harness::rewrite(black_box(file), &mut own));
+    let product = || _ = black_box(product::rewrite(black_box(file), &mut []));
+    let harness = || _ = black_box(harness::rewrite(black_box(file), &mut []));
     compare(product, harness)
 }
 

@@ -9,7 +9,7 @@ use lib.ListN.{length, getD}
 use Rattle.lists.specs.BelowLaws.{lt-or-le}
 use Rattle.lists.specs.Sections.{section-length, section-read}
 use Rattle.lists.specs.Linked.{From}
-use Rattle.first_clocks.specs.Queue.{slotsIn, duesIn, InSlot, Queued, TakenTo, look-none, look-more, look-past, Walk, walk-on}
+use Rattle.first_clocks.specs.Queue.{slotsIn, duesIn, InSlot, Queued, TakenTo, look-none, look-more, look-past, AlongSlot, along-slot}
 use borrow.Author.Needs.{needs}
 use Rattle.first_clocks.proofs.queue.take_due.Statement.{statement}
 use Rattle.first_clocks.proofs.queue.take_due.Tie as tie
@@ -21,7 +21,7 @@ next Q t k r long q h i e =
     (q .next k (t % 1024) (omega arith) h (omega (arith, section-length 0 1024 Q (omega arith), mod-lt t (zero-lt-suc 1023))) i)
 
 abbrev Inv-loop : tie.InvT-loop
-Inv-loop queue t words found₀ k₀ found k = Walk queue t words found₀ found k
+Inv-loop queue t words found₀ k₀ found k = AlongSlot queue t words found₀ found k
 
 abbrev μ-loop : tie.MeasureT-loop
 μ-loop queue t words found₀ k₀ found k = 3072 - k
@@ -44,7 +44,7 @@ loop-holds c =
     let at : 0 + slot ≡ c .before .before .wide .result % 1024 = (let e : 0 + slot ≡ slot = omega arith in e) ∙ ap (λ (x : ℕ). x % 1024) (sym (c .before .before .wide .ensures .0)) in
     let is : getD (slotsIn (a .queue .now)) slot 0 ≡ c .wide2 .result = section-read 0 1024 (a .queue .now) slot small ∙ ap (λ (i : ℕ). getD (a .queue .now) i 0) at ∙ sym (c .wide2 .ensures .0 ∙ c .before .read-at .ensures) in
     let first = p .1 .first slot (omega (arith, small, section-length 0 1024 (a .queue .now) (omega (arith, p .0)))) in
-    walk-on (a .queue .now) (p .3) (omega arith) (look-none (duesIn (a .queue .now)) (a .t) (a .words .now) (a .found .now)) (subst (From (InSlot (duesIn (a .queue .now))) 3072 slot 0) is first)
+    along-slot (a .queue .now) (p .3) (omega arith) (look-none (duesIn (a .queue .now)) (a .t) (a .words .now) (a .found .now)) (subst (From (InSlot (duesIn (a .queue .now))) 3072 slot 0) is first)
 
 add-read-at : tie.Need-add-read-at Inv-loop μ-loop
 add-read-at c = search needs
@@ -100,7 +100,7 @@ loop-again c =
     (λ r. subst T (sym (r .1)) (look-past (duesIn Q) (a .t) (a .words .now) (a .found .now) (w .1) (s .k + 1) (omega arith)
     (λ j i l q. r .0 .left (sym due ∙ ap (λ (x : ℕ). getD (duesIn Q) x 0) (let e : s .k ≡ j = omega arith in e) ∙ q))))
     (c .before .before .if1 .came) in
-    walk-on Q (p .3) (omega arith) taken (next Q (a .t) (s .k) (c .wide4 .result) (p .0) (p .1) h (w .0) (c .wide4 .ensures .0 ∙ c .before .read-at4 .ensures))
+    along-slot Q (p .3) (omega arith) taken (next Q (a .t) (s .k) (c .wide4 .result) (p .0) (p .1) h (w .0) (c .wide4 .ensures .0 ∙ c .before .read-at4 .ensures))
 
 same-length : tie.Need-same-length Inv-loop μ-loop
 same-length c = c .before .loop .inv .done (omega (arith, c .loop-test .left)) .kept
