@@ -23,3 +23,4 @@ pub mod Only15
 pub mod NoClock
 pub mod RunsBehave
 pub mod FilesAlike
+pub mod FilesRun

@@ -65,7 +65,7 @@ lent : List ℕ
 lent = replicate 11 255
 
 -- the output words of these clocks from reset on; the lent state and the lent output lists are full of ones
-outputWords : List ℕ → List Clock → List (List ℕ)
+unfoldable pub outputWords : List ℕ → List Clock → List (List ℕ)
 outputWords s cs =
     map (λ x. wordsIn (x .outputs))
     (runsFile s (resetFile s (replicate (stateBytes s) 255) .state) (map (λ c. record { inputs = bytesOf (c .inputs); outputs = replicate (2 * length (c .outputs)) 255 }) cs))
@@ -102,7 +102,7 @@ expected c = record {
 
 -- ---- the netlists, in document 01's order
 
-clock : List ℕ → List ℕ → Clock
+unfoldable pub clock : List ℕ → List ℕ → Clock
 clock ins outs = record { inputs = ins; outputs = outs }
 
 -- clocked ROMs, registers, length, largest lead, nodes that are no registers
@@ -110,7 +110,7 @@ sized : ℕ → ℕ → ℕ → ℕ → ℕ → Preview
 sized c r n m k = Fits (record { clocked = c; registers = r; length = n; lead = m; sources = k })
 
 -- refused, and by the preview likewise
-refused : List ℕ → ℕ → ℕ → Case
+unfoldable pub refused : List ℕ → ℕ → ℕ → Case
 refused file k p = record { file = file; clocks = []; gives = refusal k p; preview = preview.Refused k p; sources = []; readers = [] }
 
 -- empty: `01 00 01 01 04 00 00` gives itself
@@ -187,7 +187,7 @@ toggle = record {
 }
 
 -- input, asynchronous ROM, output: 12
-bare : Case
+unfoldable pub bare : Case
 bare =
     refused
     (0x01 ∷ 0x00 ∷ 0x01 ∷ 0x01
@@ -278,7 +278,7 @@ split = record {
 }
 
 -- input, asynchronous ROM, not, register, output: 12
-turned : Case
+unfoldable pub turned : Case
 turned =
     refused
     (0x01 ∷ 0x00 ∷ 0x01 ∷ 0x01
@@ -292,7 +292,7 @@ turned =
     12 0
 
 -- a loop of two asynchronous ROMs and one register: 11
-owing : Case
+unfoldable pub owing : Case
 owing =
     refused
     (0x01 ∷ 0x00 ∷ 0x01 ∷ 0x01

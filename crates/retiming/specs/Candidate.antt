@@ -1,9 +1,10 @@
--- What each place of the rewritten netlist should carry, from a behaviour of the old one: a rewritten element gives it, and each wire carries it. Assumes nothing.
+-- What each spot of the rewritten netlist should carry, from a behaviour of the old one: a rewritten element gives it, and each wire carries it, by its gates where
+-- its source is late. Assumes nothing.
 use mathlib.Core.Path.{_≡_, refl, sym, ap, _∙_, subst}
 use mathlib.Core.Logic.{_⊎_, inl, inr, ⊎-elim}
 use mathlib.Core.Bool.{true, false, cond, true≢false, false≢true}
 use mathlib.Core.List.{List, [], _∷_}
-use Prim.Native.Nat.{ℕ, zero, suc, _+_, _-_, _≤_, _<_, zero-le}
+use Prim.Native.Nat.{ℕ, zero, suc, _+_, _-_, _≤_, _<_, zero-le, max}
 use native.Mathlib.Nat.{not-suc-le-zero, zero-add}
 use native.Mathlib.Omega.{arith}
 use lib.ListN.{length, getD, length-map}
@@ -18,11 +19,13 @@ use Rattle.lists.specs.BelowLaws.{T→true, true→T, true-or-false, lt-or-le, 
 use Rattle.netlist.specs.Net.{Net, size, nodeAt, nowhere, elementAt, widthAt, source, operands, gives, delayed, arity, tableNo, heldAt, heldBy, noTable, spelled, tableOf, contentsIn, contentsAt, withinClock, inClock, isRegister, isInput, isOutput, isClocked, isAsync, isMemory, Behaves, Sourced, RegistersFit}
 use Rattle.netlist.specs.Reach.{Reads}
 use Rattle.retiming.specs.Leads.{asyncHere}
-use Rattle.retiming.specs.Rewrite.{Timing, wordFrom, oldOn, Place, Entry, Reg, root, passed, ownHere, memoryAt, registersOn, countOn, newTables, newTable, resetWord, copyOn, places, numberOf, along, retabled, newElement, newSource, nodeOf, rewrittenWith}
+use Rattle.retiming.specs.Rewrite.{Timing, wordFrom, oldOn, Place, Entry, Reg, root, passed, ownHere, memoryAt, registersOn, countOn, newTables, newTable, resetWord, copyOn, numberOf, along, retabled, newElement}
+use Rattle.retiming.specs.Gates.{Spot, Old, One, Chain, Shown, Pick, firstOn, lastOn, shownOn, spots, spotNumber, picked, gatedSource, spotNode, gatedWith}
 use Rattle.behaviour.specs.Exists.{rom-held}
 use Rattle.netlist.specs.Rank.{Settles, rounds, rounds-ranked}
-use Rattle.retiming.specs.Wires.{ServesKept, Rooted, width-root, delay, wire-serves, source-kept, root-kept, root-within, independent}
-use Rattle.retiming.specs.Layout.{noPlace, Stands, Sound, Numbered, numbered, along-reg, along-end, along-sound}
+use Rattle.retiming.specs.Wires.{ServesKept, Rooted, width-root, delay, wire-serves, source-kept, independent}
+use Rattle.retiming.specs.Layout.{Stands, along-reg, along-end, along-sound}
+use Rattle.retiming.specs.GatesLayout.{noSpot, SpotSound, SpotNumbered, spot-numbered, picked-gate, picked-wire, picked-sound, shown-range, shown-none}
 
 -- leads, and a choice of nodes that stay, that may serve a netlist that has passed the checks
 pub record Retimes (N : Net) (f : Timing) : Type 0 where
@@ -31,7 +34,6 @@ pub record Retimes (N : Net) (f : Timing) : Type 0 where
   pub fit : RegistersFit N
   pub rooted : Rooted N
   pub serves : ServesKept N f
-  pub early : (v : ℕ) → v < size N → f .keeps v ≡ true → f .origin ≤ f .lead v
   pub inputs : (v : ℕ) → v < size N → isInput (elementAt N v) ≡ true → f .lead v ≡ f .origin
   pub outputs : (v : ℕ) → v < size N → isOutput (elementAt N v) ≡ true → f .lead v ≡ f .origin
   pub inputs-stay : (v : ℕ) → v < size N → isInput (elementAt N v) ≡ true → f .keeps v ≡ true
@@ -43,6 +45,14 @@ unfoldable pub value : Net → Timing → (ℕ → ℕ → ℕ) → (ℕ → ℕ
 value N f Z B t (Entry u c) = cond (memoryAt N u) (delayed c (λ s. B ((s + (ownHere N u + f .lead u)) - f .origin) u) t) (B ((t + f .lead u) - f .origin) u)
 value N f Z B t (Reg x c p j) = wordFrom (f .origin) B (t + (j + f .lead x)) (source N x p)
 
+-- what a spot carries: the constant 1 and the chain that fills with it; the k-th gate of a wire the old word of its clock until that is over, and then the present one
+unfoldable pub spotValue : Net → Timing → (ℕ → ℕ → ℕ) → (ℕ → ℕ → ℕ) → ℕ → Spot → ℕ
+spotValue N f Z B t (Old pl) = value N f Z B t pl
+spotValue N f Z B t One = 1
+spotValue N f Z B t (Chain i) = one (ltb i t)
+spotValue N f Z B t (Shown x c p k) = resetWord N f Z x p (firstOn N f Z x + k)
+spotValue N f Z B t (Pick x c p k) = wordFrom (f .origin) B (max t (firstOn N f Z x + k) + f .lead x) (source N x p)
+
 -- the words on a wire that are known: the reset words, and those that come from the old netlist's clocks
 unfoldable pub Good : Net → Timing → (ℕ → ℕ → ℕ) → ℕ → ℕ → ℕ → Type 0
 Good N f Z x p n = (n < oldOn N f Z x p + f .lead (root N (source N x p))) ⊎ (f .origin + oldOn N f Z x p ≤ n)
@@ -51,6 +61,13 @@ Good N f Z x p n = (n < oldOn N f Z x p + f .lead (root N (source N x p))) ⊎ (
 unfoldable pub Valid : Net → Timing → (ℕ → ℕ → ℕ) → ℕ → Place → Type 0
 Valid N f Z t (Entry u c) = ((memoryAt N u ≡ true) × (t ≡ 0)) ⊎ (f .origin + one (memoryAt N u) ≤ t + f .lead u)
 Valid N f Z t (Reg x c p j) = Good N f Z x p (t + (j + f .lead x))
+
+unfoldable pub SpotValid : Net → Timing → (ℕ → ℕ → ℕ) → ℕ → Spot → Type 0
+SpotValid N f Z t (Old pl) = Valid N f Z t pl
+SpotValid N f Z t One = Unit {0}
+SpotValid N f Z t (Chain i) = Unit {0}
+SpotValid N f Z t (Shown x c p k) = Unit {0}
+SpotValid N f Z t (Pick x c p k) = Unit {0}
 
 pub word-before : (o : ℕ) (B : ℕ → ℕ → ℕ) (n v : ℕ) → n < o → wordFrom o B n v ≡ 0
 unfolding wordFrom
@@ -63,16 +80,16 @@ word-after o B n v l = ⊎-elim (λ t. absurd (omega (arith, ltb→lt n o (true�
 -- ---- a node of the rewritten netlist
 
 module _ (N : Net) (f : Timing) (Z : ℕ → ℕ → ℕ) where
-  pub size-new : size (rewrittenWith N f Z) ≡ length (places N f Z)
-  unfolding rewrittenWith
-  size-new = length-map (places N f Z) (nodeOf N f Z)
+  pub size-new : size (gatedWith N f Z) ≡ length (spots N f Z)
+  unfolding gatedWith
+  size-new = length-map (spots N f Z) (spotNode N f Z)
 
-  pub node-new : (i : ℕ) → i < length (places N f Z) → nodeAt (rewrittenWith N f Z) i ≡ nodeOf N f Z (getD (places N f Z) i noPlace)
-  unfolding rewrittenWith nodeAt
-  node-new i h = getD-map-lt (nodeOf N f Z) (places N f Z) i noPlace nowhere h
+  pub node-new : (i : ℕ) → i < length (spots N f Z) → nodeAt (gatedWith N f Z) i ≡ spotNode N f Z (getD (spots N f Z) i noSpot)
+  unfolding gatedWith nodeAt
+  node-new i h = getD-map-lt (spotNode N f Z) (spots N f Z) i noSpot nowhere h
 
-  pub node-numbered : (pl : Place) → Sound N f Z pl → nodeAt (rewrittenWith N f Z) (numberOf N f Z pl) ≡ nodeOf N f Z pl
-  node-numbered pl s = let n : Numbered N f Z pl = numbered N f Z pl s in node-new (numberOf N f Z pl) (n .within) ∙ ap (nodeOf N f Z) (n .at)
+  pub node-numbered : (sp : Spot) → SpotSound N f Z sp → nodeAt (gatedWith N f Z) (spotNumber N f Z sp) ≡ spotNode N f Z sp
+  node-numbered sp s = let n : SpotNumbered N f Z sp = spot-numbered N f Z sp s in node-new (spotNumber N f Z sp) (n .within) ∙ ap (spotNode N f Z) (n .at)
 
 -- a memory begun F clocks late, over what it then holds
 pub held-later : (k : Memory) (m : ℕ) (M : List ℕ) (d : ℕ → ℕ → ℕ) (F s : ℕ) → heldAt (retabled k m) (heldAt k M d F) (λ p r. d p (r + F)) s ≡ heldAt k M d (s + F)
@@ -124,24 +141,24 @@ within-new (Async k) m c p h = absurd (not-suc-le-zero h)
 within-new (Clocked k r) m c p h = absurd (not-suc-le-zero h)
 within-new (Gate o) m c p h = (refl, h)
 
-three : (e : Element) → operands e ≤ 3
-three Input = lit≤ tt
-three Output = lit≤ tt
-three (Register r) = lit≤ tt
-three (Async m) = arity-few m
-three (Clocked m r) = arity-few m
-three (Gate (Constant c)) = lit≤ tt
-three (Gate Not) = lit≤ tt
-three (Gate And) = lit≤ tt
-three (Gate Or) = lit≤ tt
-three (Gate Xor) = lit≤ tt
-three (Gate Add) = lit≤ tt
-three (Gate Subtract) = lit≤ tt
-three (Gate Equal) = lit≤ tt
-three (Gate Less) = lit≤ tt
-three (Gate Choose) = lit≤ tt
-three (Gate (Part b)) = lit≤ tt
-three (Gate Join) = lit≤ tt
+pub few-operands : (e : Element) → operands e ≤ 3
+few-operands Input = lit≤ tt
+few-operands Output = lit≤ tt
+few-operands (Register r) = lit≤ tt
+few-operands (Async m) = arity-few m
+few-operands (Clocked m r) = arity-few m
+few-operands (Gate (Constant c)) = lit≤ tt
+few-operands (Gate Not) = lit≤ tt
+few-operands (Gate And) = lit≤ tt
+few-operands (Gate Or) = lit≤ tt
+few-operands (Gate Xor) = lit≤ tt
+few-operands (Gate Add) = lit≤ tt
+few-operands (Gate Subtract) = lit≤ tt
+few-operands (Gate Equal) = lit≤ tt
+few-operands (Gate Less) = lit≤ tt
+few-operands (Gate Choose) = lit≤ tt
+few-operands (Gate (Part b)) = lit≤ tt
+few-operands (Gate Join) = lit≤ tt
 
 pub operands-new : (e : Element) (m c : ℕ) → operands (newElement e m c) ≡ operands e
 operands-new Input m c = refl
@@ -177,7 +194,7 @@ no-rom-kind (Gate o) h = refl
 
 -- ---- the sources of a new node
 
-three-sources : (g : ℕ → ℕ) (p : ℕ) → p < 3 → getD (g 0 ∷ g 1 ∷ g 2 ∷ []) p 0 ≡ g p
+pub three-sources : (g : ℕ → ℕ) (p : ℕ) → p < 3 → getD (g 0 ∷ g 1 ∷ g 2 ∷ []) p 0 ≡ g p
 three-sources g zero l = refl
 three-sources g (suc zero) l = refl
 three-sources g (suc (suc zero)) l = refl
@@ -185,16 +202,16 @@ three-sources g (suc (suc (suc p))) l = absurd (omega arith)
 
 module _ (N : Net) (f : Timing) (Z : ℕ → ℕ → ℕ) (u c : ℕ) where
   unfoldable pub sources : ℕ → ℕ
-  sources p = getD (newSource N f Z u c 0 ∷ newSource N f Z u c 1 ∷ newSource N f Z u c 2 ∷ []) p 0
+  sources p = getD (gatedSource N f Z u c 0 ∷ gatedSource N f Z u c 1 ∷ gatedSource N f Z u c 2 ∷ []) p 0
 
   pub used-new : (p : ℕ) → p < operands (newElement (elementAt N u) (newTable N f Z u) c) → p < operands (elementAt N u)
   used-new p q = subst (λ (k : ℕ). p < k) (operands-new (elementAt N u) (newTable N f Z u) c) q
 
-  pub source-new : (p : ℕ) → p < operands (newElement (elementAt N u) (newTable N f Z u) c) → sources p ≡ numberOf N f Z (along N f Z u c p 0)
-  unfolding sources newSource
+  pub source-new : (p : ℕ) → p < operands (newElement (elementAt N u) (newTable N f Z u) c) → sources p ≡ spotNumber N f Z (picked N f Z u c p 0)
+  unfolding sources gatedSource
   source-new p q =
       let l : p < operands (elementAt N u) = used-new p q in
-      three-sources (newSource N f Z u c) p (omega (arith, three (elementAt N u)))
+      three-sources (gatedSource N f Z u c) p (omega (arith, few-operands (elementAt N u)))
       ∙ (let e : ltb p (operands (elementAt N u)) ≡ true = T→true (lt→ltb p (operands (elementAt N u)) l) in rw e)
 
 -- ---- the counts of a wire
@@ -278,20 +295,52 @@ module _ (N : Net) (f : Timing) (ok : Retimes N f) (ins jns B Z : ℕ → ℕ �
         rw (along-end N f Z x c p j k) (rw e (⊎-elim (λ r. end-rom r t (rw e at g)) (λ r. end-other r t (rw e at g)) (true-or-false (memoryAt N (root N (source N x p)))))))
         (lt-or-le j (countOn N f Z x p))
 
-    -- what the reader receives, from the clock on where it starts
-    pub operand-carries : (t : ℕ) → f .origin ≤ t + f .lead x → Carries t (t + f .lead x) (along N f Z x c p 0)
-    unfolding Good
-    operand-carries t l =
+    abbrev pub SpotCarries : ℕ → ℕ → Spot → Type 0
+    SpotCarries t n sp = SpotValid N f Z t sp × (spotValue N f Z B t sp ≡ wordFrom (f .origin) B n (source N x p))
+
+    -- behind the last gate
+    pub last-carries : (t : ℕ) → Good N f Z x p (t + f .lead x) → SpotCarries t (t + f .lead x) (Old (along N f Z x c p 0))
+    unfolding SpotValid spotValue
+    last-carries t g =
         let e : t + f .lead x ≡ t + (0 + f .lead x) = omega arith in
-        let a : f .origin ≤ f .lead (root N (source N x p)) = ok .early (root N (source N x p)) (root-within N (ok .sourced) (source N x p) source-at) (root-kept N (ok .sourced) f (ok .serves) x p (s .inside) (s .kept) q) in
-        rw e (carries 0 t zero-le (⊎-elim (λ m. inl m) (λ m. inr (omega arith)) (lt-or-le (t + (0 + f .lead x)) (oldOn N f Z x p + f .lead (root N (source N x p))))))
+        rw e (carries 0 t zero-le (rw e at g))
+
+    -- what the reader receives, from the clock on where it starts
+    pub operand-carries : (t : ℕ) → f .origin ≤ t + f .lead x → SpotCarries t (t + f .lead x) (picked N f Z x c p 0)
+    unfolding Good SpotValid spotValue firstOn lastOn
+    operand-carries t l =
+        ⊎-elim (λ k. rw (picked-gate N f Z x c p 0 k) (tt, ap (λ (n : ℕ). wordFrom (f .origin) B n (source N x p)) (omega arith)))
+        (λ k. rw (picked-wire N f Z x c p 0 k) (last-carries t (⊎-elim
+        (λ (a : f .origin ≤ f .lead (root N (source N x p))). ⊎-elim (λ m. inl m) (λ m. inr (omega arith)) (lt-or-le (t + f .lead x) (oldOn N f Z x p + f .lead (root N (source N x p)))))
+        (λ (a : (oldOn N f Z x p + f .origin) - f .lead x ≤ f .origin - f .lead x). inr (omega arith)) (shown-none N f Z x p k))))
+        (lt-or-le 0 (shownOn N f Z x p))
+
+    -- what a gate passes on once its clock is over
+    pub next-carries : (k t : ℕ) → k < shownOn N f Z x p → firstOn N f Z x + k < t → SpotCarries t (t + f .lead x) (picked N f Z x c p (suc k))
+    unfolding Good SpotValid spotValue lastOn
+    next-carries k t l m =
+        ⊎-elim (λ a. rw (picked-gate N f Z x c p (suc k) a) (tt, ap (λ (n : ℕ). wordFrom (f .origin) B n (source N x p)) (omega arith)))
+        (λ a. rw (picked-wire N f Z x c p (suc k) a) (last-carries t (inr (omega (arith, shown-range N f Z x p (omega arith))))))
+        (lt-or-le (suc k) (shownOn N f Z x p))
+
+    -- what it shows until then
+    pub shown-word : (k : ℕ) → k < shownOn N f Z x p → resetWord N f Z x p (firstOn N f Z x + k) ≡ wordFrom (f .origin) B ((firstOn N f Z x + k) + f .lead x) (source N x p)
+    unfolding resetWord lastOn
+    shown-word k l = word-early ((firstOn N f Z x + k) + f .lead x) (omega (arith, shown-range N f Z x p (omega arith)))
 
     -- an operand's width is the old one's
-    pub width-along : (j : ℕ) → widthAt (rewrittenWith N f Z) (numberOf N f Z (along N f Z x c p j)) ≡ widthAt N (source N x p)
-    unfolding widthAt nodeOf
+    pub width-along : (j : ℕ) → widthAt (gatedWith N f Z) (numberOf N f Z (along N f Z x c p j)) ≡ widthAt N (source N x p)
+    unfolding widthAt spotNode spotNumber
     width-along j =
-        ap (λ (n : Node). n .width) (node-numbered N f Z (along N f Z x c p j) (along-sound N f Z (ok .sourced) (ok .rooted) (ok .serves) x c p s q j))
+        ap (λ (n : Node). n .width) (node-numbered N f Z (Old (along N f Z x c p j)) (along-sound N f Z (ok .sourced) (ok .rooted) (ok .serves) x c p s q j))
         ∙ ⊎-elim (λ l. rw (along-reg N f Z x c p j l) refl) (λ l. rw (along-end N f Z x c p j l) (width-root N (ok .sourced) (ok .fit) (source N x p) source-at)) (lt-or-le j (countOn N f Z x p))
+
+    pub width-picked : (k : ℕ) → widthAt (gatedWith N f Z) (spotNumber N f Z (picked N f Z x c p k)) ≡ widthAt N (source N x p)
+    unfolding widthAt spotNode spotNumber
+    width-picked k =
+        ⊎-elim (λ l. ap (λ (n : Node). n .width) (node-numbered N f Z (picked N f Z x c p k) (picked-sound N f Z (ok .sourced) (ok .rooted) (ok .serves) x c p s q k)) ∙ rw (picked-gate N f Z x c p k l) refl)
+        (λ l. ap (λ (sp : Spot). widthAt (gatedWith N f Z) (spotNumber N f Z sp)) (picked-wire N f Z x c p k l) ∙ width-along 0)
+        (lt-or-le k (shownOn N f Z x p))
 
   -- The new memory holds, clock by clock, what the old one does, as many clocks early as its lead says
   pub contents-new : (u c : ℕ) → Stands N f Z u c → isMemory (elementAt N u) ≡ true → (s : ℕ)

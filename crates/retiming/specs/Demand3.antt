@@ -11,15 +11,11 @@ use Prim.Native.Nat.{ℕ, _≤_}
 use lib.ListN.{length, drop}
 use Rattle.netlist.specs.declared.Answer.the-variants.{Accepted}
 use Rattle.netlist.specs.declared.Verdict.the-variants.{Fine}
-use Rattle.netlist.specs.File.{good, decode, fileVerdict}
+use Rattle.netlist.specs.File.{decode, fileVerdict}
 use Rattle.codec.specs.Bytes.{Bytes}
-use Rattle.behaviour.specs.Run.{resetState}
-use Rattle.behaviour.specs.Alike.{Alike}
-use Rattle.behaviour.specs.Service.{bytesOf, Filled, resetFile, Entry, runsFile}
+use Rattle.behaviour.specs.Service.{resetFile, Entry, runsFile}
 use Rattle.behaviour.specs.Entries.{stateBytes, entryFits, EachShows, stateAfter}
-use Rattle.behaviour.specs.Only15.{reset-fitted, reset-accepted, each-shows}
-use Rattle.behaviour.specs.NoClock.{no-clock}
-use Rattle.behaviour.specs.FilesAlike.{files-alike, fits-alike}
+use Rattle.behaviour.specs.FilesRun.{files-run}
 use Rattle.retiming.specs.Rewrite.{rewritten}
 use Rattle.retiming.specs.FileRewrite.{IsAccepted, rewrittenFile, rewriteFile, NoAsynchronous}
 use Rattle.retiming.specs.RewrittenFile.{Past13, past-13, accepted-written, netlists-alike, reads-new, passes-reader, no-asynchronous}
@@ -45,27 +41,9 @@ pub demand-3 : (s s′ : List ℕ) → Bytes s → IsAccepted s → s′ ≡ rew
     → (stateAfter s (resetFile s st .state) (es ++ x ∷ []) ≡ stateAfter s (resetFile s st .state) es)
     × (stateAfter s′ (resetFile s′ st′ .state) (es ++ x ∷ []) ≡ stateAfter s′ (resetFile s′ st′ .state) es)))))
 demand-3 s s′ b a e =
-    let t : Past13 s = past-13 s a in
-    let ok : Alike (t .net) (rewritten (t .net)) = netlists-alike s b t in
-    let reads′ : decode s′ ≡ good (rewritten (t .net)) = ap decode e ∙ reads-new s b t in (
+    let t : Past13 s = past-13 s a in (
       rw e (λ out. accepted-written s out a),
       ap fileVerdict e ∙ passes-reader s b t,
       rw e (no-asynchronous s b t),
-      λ st st′ h h′.
-          let r = reset-accepted s (t .net) (ok .old) (t .reads) st h in
-          let r′ = reset-accepted s′ (rewritten (t .net)) (ok .new) reads′ st′ h′ in (
-            ap (λ (x : Filled). x .answer) r,
-            ap (λ (x : Filled). x .answer) r′,
-            λ es. (
-              rw r (rw r′ (files-alike s s′ (t .net) (rewritten (t .net)) ok (t .reads) reads′ es)),
-              rw r (each-shows s (t .net) (ok .old) (t .reads) (bytesOf (resetState (t .net))) (reset-fitted (t .net) (ok .old)) es),
-              λ x. (
-                fits-alike s s′ (t .net) (rewritten (t .net)) ok (t .reads) reads′ x,
-                λ f. (
-                  no-clock s (t .net) (ok .old) (t .reads) (resetFile s st .state) es x f,
-                  no-clock s′ (rewritten (t .net)) (ok .new) reads′ (resetFile s′ st′ .state) es x (fits-alike s s′ (t .net) (rewritten (t .net)) ok (t .reads) reads′ x ∙ f),
-                ),
-              ),
-            ),
-          ),
+      files-run s s′ (t .net) (rewritten (t .net)) (netlists-alike s b t) (t .reads) (ap decode e ∙ reads-new s b t),
     )

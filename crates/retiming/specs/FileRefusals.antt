@@ -26,29 +26,8 @@ use Rattle.retiming.specs.Debt.{debtVerdict}
 use Rattle.retiming.specs.DebtLaws.{LowestOwing, NoneOwes, search-ports, no-closed, closed-none, refuses-11-iff, refuses-12-iff, refuses-13-iff}
 use Rattle.retiming.specs.PortWalks.{PortOwes, lowest-owing, none-owes}
 use Rattle.retiming.specs.FileRewrite.{rewriterVerdict, IsAccepted, rewrittenFile, writtenBy, outVerdict, written, writtenAfter, rewriteFile}
-use Rattle.retiming.specs.OutLaws.{out-short, out-refuses}
-
--- ---- 14, and what the answer says of the checks before it
-
-module _ (b out : List ℕ) where
-  -- the answer is a refusal just where the verdict is one, and then the output is as it was
-  refused-by : (v : Verdict) (k p : ℕ) → writtenBy v b out .answer ≡ Refused k p → (v ≡ Refuses k p) × (writtenBy v b out .out ≡ out)
-  refused-by Fine k p e = let z : _≡_ {A = ℕ} 0 1 = cc in absurd (omega arith)
-  refused-by (Refuses m q) k p e = (cc, refl)
-
-  -- 14 by the length, after which no other number comes
-  short : (k p : ℕ) → written b out .answer ≡ Refused k p → (k ≡ 14) × (p ≡ 65535) × (length out < length b)
-  unfolding written
-  short k p e = out-refuses b out (refused-by (outVerdict b out) k p e .0)
-
-  kept : (v : Verdict) (k p : ℕ) → writtenAfter v b out .answer ≡ Refused k p → writtenAfter v b out .out ≡ out
-  unfolding written
-  kept Fine k p e = refused-by (outVerdict b out) k p e .1
-  kept (Refuses m q) k p e = refl
-
-  said : (v : Verdict) (k p : ℕ) → (k ≡ 14 → ⊥) → writtenAfter v b out .answer ≡ Refused k p → v ≡ Refuses k p
-  said Fine k p h e = absurd (h (short k p e .0))
-  said (Refuses m q) k p h e = cc
+use Rattle.retiming.specs.OutLaws.{kept, short-iff, said-iff}
+use Rattle.retiming.specs.Past.{judged-is}
 
 -- "no lent byte differs after it": of any file, and of any refusal
 pub refused-keeps : (s out : List ℕ) (k p : ℕ) → rewriteFile s out .answer ≡ Refused k p → rewriteFile s out .out ≡ out
@@ -57,28 +36,22 @@ refused-keeps s out k p e = kept (rewrittenFile s) out (rewriterVerdict s) k p e
 
 -- 14: just where the lent output is shorter than the rewritten file
 pub refused-14-iff : (s out : List ℕ) → IsAccepted s → rewriteFile s out .answer ≡ Refused 14 65535 ↔ (length out < length (rewrittenFile s))
-unfolding rewriteFile written
-refused-14-iff s out a = rw a (
-  λ e. short (rewrittenFile s) out 14 65535 e .2,
-  λ l. ap (λ (v : Verdict). writtenBy v (rewrittenFile s) out .answer) (out-short (rewrittenFile s) out l),
-)
+unfolding rewriteFile
+refused-14-iff s out a = short-iff (rewrittenFile s) out (rewriterVerdict s) a
 
 -- ---- of a file that the reader passes: 11, 12 and 13
 
 module _ (s : List ℕ) (b : Bytes s) (N : Net) (reads : decode s ≡ good N) (fine : readerVerdict N ≡ Fine) (out : List ℕ) where
   verdict-is : rewriterVerdict s ≡ debtVerdict N
-  unfolding rewriterVerdict fileVerdict
-  verdict-is = ap (λ (d : Decoded). onward (judged d) (debtVerdict (decodedNet d))) reads ∙ ap (λ (v : Verdict). onward v (debtVerdict N)) fine
+  unfolding rewriterVerdict
+  verdict-is = judged-is debtVerdict s N reads fine
 
   wf : WellFormed N
   wf = reader-fine N (decode-within s N b reads .fields) fine
 
   refused-is : (k p : ℕ) → (k ≡ 14 → ⊥) → rewriteFile s out .answer ≡ Refused k p ↔ debtVerdict N ≡ Refuses k p
   unfolding rewriteFile
-  refused-is k p h = (
-    λ e. sym verdict-is ∙ said (rewrittenFile s) out (rewriterVerdict s) k p h e,
-    λ e. ap (λ (v : Verdict). writtenAfter v (rewrittenFile s) out .answer) (verdict-is ∙ e),
-  )
+  refused-is = said-iff (rewrittenFile s) out (rewriterVerdict s) (debtVerdict N) verdict-is
 
   -- a closed walk has positive excess
   pub refused-11-iff : rewriteFile s out .answer ≡ Refused 11 65535 ↔ PositiveClosed N

@@ -1,6 +1,6 @@
 -- The places of the rewritten netlist: each place that stands in it is sound, and each sound place stands at its number. Assumes nothing.
 use mathlib.Core.Path.{_≡_, ap, _∙_, subst}
-use mathlib.Core.Logic.{⊎-elim}
+use mathlib.Core.Logic.{_⊎_, inl, inr, ⊎-elim}
 use mathlib.Core.Bool.{true, false, not, false≢true}
 use mathlib.Core.List.{List, _++_}
 use Prim.Native.Nat.{ℕ, suc, _+_, _-_, _≤_, _<_}
@@ -19,6 +19,24 @@ use Rattle.retiming.specs.Wires.{ServesKept, Rooted, root-within, root-k
 
 abbrev pub noPlace : Place
 noPlace = Entry 0 0
+
+-- a stands at number i of a list; d is what getD gives past its end
+abbrev pub At : {A : Type 0} → A → List A → ℕ → A → Type 0
+At d l i a = (i < length l) × (getD l i d ≡ a)
+
+pub at-left : {A : Type 0} (d : A) (l m : List A) (i : ℕ) (a : A) → At d l i a → At d (l ++ m) i a
+at-left d l m i a (h, e) = (simp length-append (omega arith), List·getD-append l m d i h ∙ e)
+
+pub at-right : {A : Type 0} (d : A) (l m : List A) (i : ℕ) (a : A) → At d m i a → At d (l ++ m) (length l + i) a
+at-right d l m i a (h, e) = (simp length-append (omega arith), getD-append-add l m i d ∙ e)
+
+-- what stands in two lists is in the one or in the other
+pub either : {A : Type 0} (d : A) (l r : List A) (i : ℕ) → i < length (l ++ r) → ((i < length l) × (getD (l ++ r) i d ≡ getD l i d)) ⊎ ((m : ℕ) × (i ≡ length l + m) × (m < length r) × (getD (l ++ r) i d ≡ getD r m d))
+either d l r i h =
+    ⊎-elim (λ k. inl (k, List·getD-append l r d i k))
+    (λ k. let m : ℕ = i - length l in
+    let e : i ≡ length l + m = omega arith in
+    inr (m, e, omega (arith, simp length-append at h), ap (λ (n : ℕ). getD (l ++ r) n d) e ∙ getD-append-add l r m d)) (lt-or-le i (length l))
 
 module _ (N : Net) (f : Timing) (Z : ℕ → ℕ → ℕ) where
   -- a node x that stays and is no register, with one of its reset words
@@ -54,7 +72,7 @@ module _ (N : Net) (f : Timing) (Z : ℕ → ℕ → ℕ) where
   entries-sound = all-concatBelow Sound (entriesOf N f Z) (size N) (λ u h. all-map Sound (Entry u) (copies N f Z u) (λ c e. stands u c h e))
 
   -- what holds of all places of a wire, for each wire
-  pub all-wires : (P : Place → Type 0) (g : ℕ → ℕ → ℕ → List Place) → ((x c p : ℕ) → Stands x c → p < operands (elementAt N x) → All P (g x c p)) → All P (wirePlaces N f Z g)
+  pub all-wires : {A : Type 0} (P : A → Type 0) (g : ℕ → ℕ → ℕ → List A) → ((x c p : ℕ) → Stands x c → p < operands (elementAt N x) → All P (g x c p)) → All P (wirePlaces N f Z g)
   unfolding wirePlaces wiresAll wiresOf
   all-wires P g a =
       all-concatBelow P (wiresAll N f Z g) (size N) (λ x h.
@@ -65,28 +83,20 @@ module _ (N : Net) (f : Timing) (Z : ℕ → ℕ → ℕ) where
   unfolding regPlaces regsOn
   regs-sound = all-wires Sound (regsOn N f Z) (λ x c p s q. all-listed Sound (λ i. Reg x c p (countOn N f Z x p - suc i)) (countOn N f Z x p) (λ i k. (s, q, omega arith)))
 
-  pub places-sound : (i : ℕ) → i < length (places N f Z) → Sound (getD (places N f Z) i noPlace)
+  pub all-places-sound : All Sound (places N f Z)
   unfolding places
-  places-sound i h =
-      all-getD Sound (places N f Z) i noPlace (all-append Sound (entryPlaces N f Z) (regPlaces N f Z) entries-sound regs-sound) h
+  all-places-sound = all-append Sound (entryPlaces N f Z) (regPlaces N f Z) entries-sound regs-sound
+
+  pub places-sound : (i : ℕ) → i < length (places N f Z) → Sound (getD (places N f Z) i noPlace)
+  places-sound i h = all-getD Sound (places N f Z) i noPlace all-places-sound h
 
   -- ---- every sound place stands at its number
-
-  -- place i of a list
-  abbrev pub At : List Place → ℕ → Place → Type 0
-  At l i pl = (i < length l) × (getD l i noPlace ≡ pl)
-
-  at-left : (l m : List Place) (i : ℕ) (pl : Place) → At l i pl → At (l ++ m) i pl
-  at-left l m i pl (h, e) = (simp length-append (omega arith), List·getD-append l m noPlace i h ∙ e)
-
-  at-right : (l m : List Place) (i : ℕ) (pl : Place) → At m i pl → At (l ++ m) (length l + i) pl
-  at-right l m i pl (h, e) = (simp length-append (omega arith), getD-append-add l m i noPlace ∙ e)
 
   pub record Numbered (pl : Place) : Type 0 where
     pub within : numberOf N f Z pl < length (places N f Z)
     pub at : getD (places N f Z) (numberOf N f Z pl) noPlace ≡ pl
 
-  numbered-at : (pl : Place) → At (places N f Z) (numberOf N f Z pl) pl → Numbered pl
+  numbered-at : (pl : Place) → At noPlace (places N f Z) (numberOf N f Z pl) pl → Numbered pl
   numbered-at pl (h, e) = record { within = h; at = e }
 
   module _ (x c : ℕ) (s : Stands x c) where
@@ -101,7 +111,7 @@ module _ (N : Net) (f : Timing) (Z : ℕ → ℕ → ℕ) where
     unfolding entriesOf
     entry-at = getD-map-lt (Entry x) (copies N f Z x) (find c (copies N f Z x)) 0 noPlace find-copy ∙ ap (Entry x) (getD-find c (copies N f Z x) 0 (s .copy))
 
-    entry-found : At (entryPlaces N f Z) (numberOf N f Z (Entry x c)) (Entry x c)
+    entry-found : At noPlace (entryPlaces N f Z) (numberOf N f Z (Entry x c)) (Entry x c)
     unfolding numberOf entryPlaces
     entry-found = (
       offset-below-lt (entriesOf N f Z) (size N) x (find c (copies N f Z x)) (s .inside) entry-lt,
@@ -112,14 +122,14 @@ module _ (N : Net) (f : Timing) (Z : ℕ → ℕ → ℕ) where
     pub entry-within : numberOf N f Z (Entry x c) < length (entryPlaces N f Z)
     entry-within = entry-found .0
 
-    -- the places of a wire
-    module _ (g : ℕ → ℕ → ℕ → List Place) (p i : ℕ) (q : p < operands (elementAt N x)) (pl : Place) (found : At (g x c p) i pl) where
+    -- what stands on a wire
+    module _ {A : Type 0} (d : A) (g : ℕ → ℕ → ℕ → List A) (p i : ℕ) (q : p < operands (elementAt N x)) (pl : A) (found : At d (g x c p) i pl) where
       place₁ : ℕ
       place₁ = offset (g x c) (below (operands (elementAt N x))) p + i
 
-      at₁ : At (wiresOf N f Z g x c) place₁ pl
+      at₁ : At d (wiresOf N f Z g x c) place₁ pl
       unfolding wiresOf place₁
-      at₁ = (offset-below-lt (g x c) (operands (elementAt N x)) p i q (found .0), getD-concatBelow (g x c) (operands (elementAt N x)) p i q (found .0) noPlace ∙ found .1)
+      at₁ = (offset-below-lt (g x c) (operands (elementAt N x)) p i q (found .0), getD-concatBelow (g x c) (operands (elementAt N x)) p i q (found .0) d ∙ found .1)
 
       place₂ : ℕ
       place₂ = offset (wiresOf N f Z g x) (copies N f Z x) (find c (copies N f Z x)) + place₁
@@ -127,48 +137,48 @@ module _ (N : Net) (f : Timing) (Z : ℕ → ℕ → ℕ) where
       copy-at : getD (copies N f Z x) (find c (copies N f Z x)) 0 ≡ c
       copy-at = getD-find c (copies N f Z x) 0 (s .copy)
 
-      at₂ : At (wiresAll N f Z g x) place₂ pl
+      at₂ : At d (wiresAll N f Z g x) place₂ pl
       unfolding wiresAll place₂
       at₂ = (
         offset-lt (wiresOf N f Z g x) (copies N f Z x) (find c (copies N f Z x)) place₁ 0 find-copy (rw copy-at (at₁ .0)),
-        getD-concatMap (wiresOf N f Z g x) (copies N f Z x) (find c (copies N f Z x)) place₁ 0 noPlace find-copy (rw copy-at (at₁ .0))
-            ∙ ap (λ (k : ℕ). getD (wiresOf N f Z g x k) place₁ noPlace) copy-at ∙ at₁ .1,
+        getD-concatMap (wiresOf N f Z g x) (copies N f Z x) (find c (copies N f Z x)) place₁ 0 d find-copy (rw copy-at (at₁ .0))
+            ∙ ap (λ (k : ℕ). getD (wiresOf N f Z g x k) place₁ d) copy-at ∙ at₁ .1,
       )
 
-      at₃ : At (wirePlaces N f Z g) (offset (wiresAll N f Z g) (below (size N)) x + place₂) pl
+      at₃ : At d (wirePlaces N f Z g) (offset (wiresAll N f Z g) (below (size N)) x + place₂) pl
       unfolding wirePlaces
       at₃ = (
         offset-below-lt (wiresAll N f Z g) (size N) x place₂ (s .inside) (at₂ .0),
-        getD-concatBelow (wiresAll N f Z g) (size N) x place₂ (s .inside) (at₂ .0) noPlace ∙ at₂ .1,
+        getD-concatBelow (wiresAll N f Z g) (size N) x place₂ (s .inside) (at₂ .0) d ∙ at₂ .1,
       )
 
       wire-sum : offset (wiresAll N f Z g) (below (size N)) x + place₂ ≡ wireNumber N f Z g x c p + i
       unfolding wireNumber place₂ place₁
       wire-sum = omega arith
 
-      pub wire-at : At (wirePlaces N f Z g) (wireNumber N f Z g x c p + i) pl
-      wire-at = subst (λ (k : ℕ). At (wirePlaces N f Z g) k pl) wire-sum at₃
+      pub wire-at : At d (wirePlaces N f Z g) (wireNumber N f Z g x c p + i) pl
+      wire-at = subst (λ (k : ℕ). At d (wirePlaces N f Z g) k pl) wire-sum at₃
 
     module _ (p : ℕ) (q : p < operands (elementAt N x)) where
-      reg-at : (j : ℕ) → j < countOn N f Z x p → At (regsOn N f Z x c p) (countOn N f Z x p - suc j) (Reg x c p j)
+      reg-at : (j : ℕ) → j < countOn N f Z x p → At noPlace (regsOn N f Z x c p) (countOn N f Z x p - suc j) (Reg x c p j)
       unfolding regsOn
       reg-at j l = (
         rw (length-listed (λ i. Reg x c p (countOn N f Z x p - suc i)) (countOn N f Z x p)) (omega arith),
         getD-listed (λ i. Reg x c p (countOn N f Z x p - suc i)) (countOn N f Z x p) (countOn N f Z x p - suc j) noPlace (omega arith) ∙ ap (Reg x c p) (omega arith),
       )
 
-      reg-found : (j : ℕ) → j < countOn N f Z x p → At (regPlaces N f Z) (wireNumber N f Z (regsOn N f Z) x c p + (countOn N f Z x p - suc j)) (Reg x c p j)
+      reg-found : (j : ℕ) → j < countOn N f Z x p → At noPlace (regPlaces N f Z) (wireNumber N f Z (regsOn N f Z) x c p + (countOn N f Z x p - suc j)) (Reg x c p j)
       unfolding regPlaces
-      reg-found j l = wire-at (regsOn N f Z) p (countOn N f Z x p - suc j) q (Reg x c p j) (reg-at j l)
+      reg-found j l = wire-at noPlace (regsOn N f Z) p (countOn N f Z x p - suc j) q (Reg x c p j) (reg-at j l)
 
   -- in all places
-  in-entries : (i : ℕ) (pl : Place) → At (entryPlaces N f Z) i pl → At (places N f Z) i pl
+  in-entries : (i : ℕ) (pl : Place) → At noPlace (entryPlaces N f Z) i pl → At noPlace (places N f Z) i pl
   unfolding places
-  in-entries i pl a = at-left (entryPlaces N f Z) (regPlaces N f Z) i pl a
+  in-entries i pl a = at-left noPlace (entryPlaces N f Z) (regPlaces N f Z) i pl a
 
-  in-regs : (i : ℕ) (pl : Place) → At (regPlaces N f Z) i pl → At (places N f Z) (length (entryPlaces N f Z) + i) pl
+  in-regs : (i : ℕ) (pl : Place) → At noPlace (regPlaces N f Z) i pl → At noPlace (places N f Z) (length (entryPlaces N f Z) + i) pl
   unfolding places
-  in-regs i pl a = at-right (entryPlaces N f Z) (regPlaces N f Z) i pl a
+  in-regs i pl a = at-right noPlace (entryPlaces N f Z) (regPlaces N f Z) i pl a
 
   pub numbered : (pl : Place) → Sound pl → Numbered pl
   unfolding numberOf

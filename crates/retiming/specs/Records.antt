@@ -15,37 +15,59 @@ use Rattle.lists.specs.BelowLaws.{lt-or-le}
 use Rattle.netlist.specs.Net.{Table, Net, size, nodeAt, elementAt, source, operands, tableOf, Sourced}
 use Rattle.netlist.specs.Checks.{HasTable, WellFormed}
 use Rattle.codec.specs.Within.{Within}
-use Rattle.retiming.specs.Rewrite.{Timing, Place, Entry, Reg, newTable, newElement, newSource, nodeOf, rewrittenWith}
-use Rattle.retiming.specs.Layout.{Sound}
+use Rattle.retiming.specs.Rewrite.{Timing, Entry, Reg, newTable, newElement}
+use Rattle.retiming.specs.Gates.{Spot, Old, One, Chain, Shown, Pick, gatedSource, spotNode, gatedWith}
+use Rattle.retiming.specs.GatesLayout.{SpotSound}
 use Rattle.retiming.specs.Candidate.{Retimes, operands-new}
 use Rattle.retiming.specs.New.{at-node}
 
--- ---- a node of the rewritten netlist, by its place
+-- ---- a node of the rewritten netlist, by its spot
 
 module _ (N : Net) (f : Timing) (Z : ℕ → ℕ → ℕ) where
-  three-places : (pl : Place) → length (nodeOf N f Z pl .sources) ≡ 3
-  unfolding nodeOf
-  three-places (Entry u c) = refl
-  three-places (Reg x c p j) = refl
+  three-sources : (sp : Spot) → length (spotNode N f Z sp .sources) ≡ 3
+  unfolding spotNode
+  three-sources (Old (Entry u c)) = refl
+  three-sources (Old (Reg x c p j)) = refl
+  three-sources One = refl
+  three-sources (Chain i) = refl
+  three-sources (Shown x c p k) = refl
+  three-sources (Pick x c p k) = refl
 
   -- what an element does not read is 0
-  no-source : (u c p : ℕ) → operands (elementAt N u) ≤ p → newSource N f Z u c p ≡ 0
-  unfolding newSource
+  no-source : (u c p : ℕ) → operands (elementAt N u) ≤ p → gatedSource N f Z u c p ≡ 0
+  unfolding gatedSource
   no-source u c p h = rw (le-ltb p (operands (elementAt N u)) h)
 
-  none-of-three : (u c p : ℕ) → operands (elementAt N u) ≤ p → getD (newSource N f Z u c 0 ∷ newSource N f Z u c 1 ∷ newSource N f Z u c 2 ∷ []) p 0 ≡ 0
+  none-of-three : (u c p : ℕ) → operands (elementAt N u) ≤ p → getD (gatedSource N f Z u c 0 ∷ gatedSource N f Z u c 1 ∷ gatedSource N f Z u c 2 ∷ []) p 0 ≡ 0
   none-of-three u c zero h = no-source u c 0 h
   none-of-three u c (suc zero) h = no-source u c 1 h
   none-of-three u c (suc (suc zero)) h = no-source u c 2 h
   none-of-three u c (suc (suc (suc p))) h = refl
 
-  unread-place : (pl : Place) (p : ℕ) → operands (nodeOf N f Z pl .element) ≤ p → getD (nodeOf N f Z pl .sources) p 0 ≡ 0
-  unfolding nodeOf
-  unread-place (Entry u c) p h = none-of-three u c p (rw (operands-new (elementAt N u) (newTable N f Z u) c) at h)
-  unread-place (Reg x c q j) zero h = absurd (omega arith)
-  unread-place (Reg x c q j) (suc zero) h = refl
-  unread-place (Reg x c q j) (suc (suc zero)) h = refl
-  unread-place (Reg x c q j) (suc (suc (suc p))) h = refl
+  -- a node with one source, and with none
+  none-of-one : (a p : ℕ) → 1 ≤ p → getD (a ∷ 0 ∷ 0 ∷ []) p 0 ≡ 0
+  none-of-one a zero h = absurd (omega arith)
+  none-of-one a (suc zero) h = refl
+  none-of-one a (suc (suc zero)) h = refl
+  none-of-one a (suc (suc (suc p))) h = refl
+
+  none-of-none : (p : ℕ) → getD {A = ℕ} (0 ∷ 0 ∷ 0 ∷ []) p 0 ≡ 0
+  none-of-none zero = refl
+  none-of-none (suc zero) = refl
+  none-of-none (suc (suc zero)) = refl
+  none-of-none (suc (suc (suc p))) = refl
+
+  unread-spot : (sp : Spot) (p : ℕ) → operands (spotNode N f Z sp .element) ≤ p → getD (spotNode N f Z sp .sources) p 0 ≡ 0
+  unfolding spotNode
+  unread-spot (Old (Entry u c)) p h = none-of-three u c p (rw (operands-new (elementAt N u) (newTable N f Z u) c) at h)
+  unread-spot (Old (Reg x c q j)) p h = none-of-one _ p h
+  unread-spot One p h = none-of-none p
+  unread-spot (Chain i) p h = none-of-one _ p h
+  unread-spot (Shown x c q k) p h = none-of-none p
+  unread-spot (Pick x c q k) zero h = absurd (omega arith)
+  unread-spot (Pick x c q k) (suc zero) h = absurd (omega arith)
+  unread-spot (Pick x c q k) (suc (suc zero)) h = absurd (omega arith)
+  unread-spot (Pick x c q k) (suc (suc (suc p))) h = refl
 
   -- an operation stays as it is
   part-came : (e : Element) (m c b : ℕ) → newElement e m c ≡ Gate (Part b) → e ≡ Gate (Part b)
@@ -56,10 +78,14 @@ module _ (N : Net) (f : Timing) (Z : ℕ → ℕ → ℕ) where
   part-came (Clocked k r) m c b h = cc
   part-came (Gate o) m c b h = h
 
-  lowest-place : Within N → (pl : Place) → Sound N f Z pl → (b : ℕ) → nodeOf N f Z pl .element ≡ Gate (Part b) → b < 256
-  unfolding nodeOf elementAt
-  lowest-place w (Entry u c) s b h = w .records u (s .inside) .lowest b (part-came (elementAt N u) (newTable N f Z u) c b h)
-  lowest-place w (Reg x c p j) s b h = let z : _≡_ {A = ℕ} 0 1 = cc in absurd (omega arith)
+  lowest-spot : Within N → (sp : Spot) → SpotSound N f Z sp → (b : ℕ) → spotNode N f Z sp .element ≡ Gate (Part b) → b < 256
+  unfolding spotNode elementAt
+  lowest-spot w (Old (Entry u c)) s b h = w .records u (s .inside) .lowest b (part-came (elementAt N u) (newTable N f Z u) c b h)
+  lowest-spot w (Old (Reg x c p j)) s b h = let z : _≡_ {A = ℕ} 0 1 = cc in absurd (omega arith)
+  lowest-spot w One s b h = let z : _≡_ {A = ℕ} 0 1 = cc in absurd (omega arith)
+  lowest-spot w (Chain i) s b h = let z : _≡_ {A = ℕ} 0 1 = cc in absurd (omega arith)
+  lowest-spot w (Shown x c p k) s b h = let z : _≡_ {A = ℕ} 0 1 = cc in absurd (omega arith)
+  lowest-spot w (Pick x c p k) s b h = let z : _≡_ {A = ℕ} 0 1 = cc in absurd (omega arith)
 
 -- ---- all of them
 
@@ -72,10 +98,10 @@ pub record Shaped (x : Node) : Type 0 where
 abbrev pub AllShaped : Net → Type 0
 AllShaped M = (v : ℕ) → v < size M → Shaped (nodeAt M v)
 
-pub shaped-new : (N : Net) (f : Timing) (Z : ℕ → ℕ → ℕ) → Retimes N f → Within N → AllShaped (rewrittenWith N f Z)
+pub shaped-new : (N : Net) (f : Timing) (Z : ℕ → ℕ → ℕ) → Retimes N f → Within N → AllShaped (gatedWith N f Z)
 shaped-new N f Z ok w =
-    at-node N f Z ok (λ i pl n. Shaped n)
-    (λ i k s. record { three = three-places N f Z _; unread = unread-place N f Z _; lowest = lowest-place N f Z w _ s })
+    at-node N f Z ok (λ i sp n. Shaped n)
+    (λ i k s. record { three = three-sources N f Z _; unread = unread-spot N f Z _; lowest = lowest-spot N f Z w _ s })
 
 -- at most 16 tables, so a number is one byte
 table-byte : (ts : List Table) → length ts ≤ 16 → (e : Element) → HasTable ts e → tableOf e < 256

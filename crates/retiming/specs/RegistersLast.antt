@@ -15,7 +15,8 @@ use Rattle.retiming.specs.Rewrite.{Timing, Place, Entry, Reg, root, coun
 use Rattle.retiming.specs.Wires.{Rooted, wire-next, wire-none}
 use Rattle.retiming.specs.Layout.{noPlace, Stands, Sound, places-sound, entry-within, along-reg, along-end, root-stands}
 use Rattle.retiming.specs.Numbers.{number-of-place}
-use Rattle.retiming.specs.Candidate.{Retimes, size-new, node-new, node-numbered}
+use Rattle.retiming.specs.Candidate.{Retimes}
+use Rattle.retiming.specs.PlaceNodes.{size-places, place-node, place-numbered}
 use Rattle.retiming.specs.Rules.{register-new}
 use Rattle.retiming.specs.BySource.{registersFrom, registersTo, bySource, byReader}
 
@@ -90,8 +91,8 @@ module _ (N : Net) (f : Timing) (Z : ℕ → ℕ → ℕ) (ok : Retimes N f) whe
 
   at : (v : ℕ) → v < size new → At v
   at v h =
-      let l : v < length (places N f Z) = subst (λ (n : ℕ). v < n) (size-new N f Z) h in
-      record { place = getD (places N f Z) v noPlace; sound = places-sound N f Z v l; number = number-of-place N f Z v l; node = node-new N f Z v l }
+      let l : v < length (places N f Z) = subst (λ (n : ℕ). v < n) (size-places N f Z) h in
+      record { place = getD (places N f Z) v noPlace; sound = places-sound N f Z v l; number = number-of-place N f Z v l; node = place-node N f Z v l }
 
   module _ (rooted : Rooted new) where
     -- a register of a wire and what it reads
@@ -106,13 +107,13 @@ module _ (N : Net) (f : Timing) (Z : ℕ → ℕ → ℕ) (ok : Retimes N f) whe
         (λ (m : countOn N f Z x p ≤ suc j).
         let t : Stands N f Z (root N (source N x p)) _ = root-stands N f Z (ok .sourced) (ok .rooted) (ok .serves) x c p s q in
         let is : source new v 0 ≡ numberOf N f Z (Entry (root N (source N x p)) _) = e ∙ ap (numberOf N f Z) (along-end N f Z x c p (suc j) m) in
-        let other : isRegister (elementAt new (source new v 0)) ≡ false = ap (λ (k : ℕ). isRegister (elementAt new k)) is ∙ ap (λ (n : Node). isRegister (n .element)) (node-numbered N f Z (Entry (root N (source N x p)) _) t) ∙ entry-other (root N (source N x p)) _ t in
+        let other : isRegister (elementAt new (source new v 0)) ≡ false = ap (λ (k : ℕ). isRegister (elementAt new k)) is ∙ ap (λ (n : Node). isRegister (n .element)) (place-numbered N f Z (Entry (root N (source N x p)) _) t) ∙ entry-other (root N (source N x p)) _ t in
         inl (omega (arith, entry-within N f Z (root N (source N x p)) _ t), wire-next new rooted v h r .0 ∙ wire-none new (source new v 0) other .0))
         (lt-or-le (suc j) (countOn N f Z x p))
 
     few-firsts : firsts ≤ size new
     unfolding places
-    few-firsts = omega (arith, size-new N f Z, length-append (entryPlaces N f Z) (regPlaces N f Z))
+    few-firsts = omega (arith, size-places N f Z, length-append (entryPlaces N f Z) (regPlaces N f Z))
 
     first-other : (v : ℕ) → v < firsts → At v → isRegister (elementAt new v) ≡ false
     unfolding elementAt

@@ -17,7 +17,8 @@ use Rattle.retiming.specs.Rewrite.{Timing, Place, Entry, Reg, passed, co
 use Rattle.retiming.specs.Wires.{Rooted, wire-next, wire-none}
 use Rattle.retiming.specs.Layout.{noPlace, Stands, Sound, places-sound, numbered, along-reg, along-end, root-stands}
 use Rattle.retiming.specs.Numbers.{number-of-place}
-use Rattle.retiming.specs.Candidate.{Retimes, size-new, node-new, node-numbered, operands-new, sources, used-new, source-new}
+use Rattle.retiming.specs.Candidate.{Retimes, operands-new, used-new}
+use Rattle.retiming.specs.PlaceNodes.{size-places, place-node, place-numbered, place-source}
 use Rattle.retiming.specs.BySource.{registersTo, byReader}
 use Rattle.retiming.specs.BySourceLaws.{sources-others}
 use Rattle.retiming.specs.RegistersLast.{firsts, entry-other, registers-last, reader-list, source-count}
@@ -62,7 +63,7 @@ module _ (N : Net) (f : Timing) (Z : ℕ → ℕ → ℕ) where
     new = rewrittenWith N f Z
 
     number-inside : (pl : Place) → Sound N f Z pl → numberOf N f Z pl < size new
-    number-inside pl s = subst (λ (n : ℕ). numberOf N f Z pl < n) (sym (size-new N f Z)) (numbered N f Z pl s .within)
+    number-inside pl s = subst (λ (n : ℕ). numberOf N f Z pl < n) (sym (size-places N f Z)) (numbered N f Z pl s .within)
 
     module _ (x c p : ℕ) (s : Stands N f Z x c) (q : p < operands (elementAt N x)) where
       passed-end : (j : ℕ) → countOn N f Z x p ≤ j → passed new (numberOf N f Z (along N f Z x c p j)) ≡ 0
@@ -70,13 +71,13 @@ module _ (N : Net) (f : Timing) (Z : ℕ → ℕ → ℕ) where
       passed-end j l =
           let t = root-stands N f Z (ok .sourced) (ok .rooted) (ok .serves) x c p s q in
           ap (λ (pl : Place). passed new (numberOf N f Z pl)) (along-end N f Z x c p j l)
-          ∙ wire-none new _ (ap (λ (n : Node). isRegister (n .element)) (node-numbered N f Z (Entry _ _) t) ∙ entry-other N f Z ok _ _ t) .1
+          ∙ wire-none new _ (ap (λ (n : Node). isRegister (n .element)) (place-numbered N f Z (Entry _ _) t) ∙ entry-other N f Z ok _ _ t) .1
 
       passed-reg : (j : ℕ) → j < countOn N f Z x p → passed new (numberOf N f Z (along N f Z x c p j)) ≡ suc (passed new (numberOf N f Z (along N f Z x c p (suc j))))
       unfolding elementAt source nodeOf
       passed-reg j l =
           let here : Sound N f Z (Reg x c p j) = (s, q, l) in
-          let node = node-numbered N f Z (Reg x c p j) here in
+          let node = place-numbered N f Z (Reg x c p j) here in
           ap (λ (pl : Place). passed new (numberOf N f Z pl)) (along-reg N f Z x c p j l)
           ∙ wire-next new rooted (numberOf N f Z (Reg x c p j)) (number-inside (Reg x c p j) here) (ap (λ (n : Node). isRegister (n .element)) node) .1
           ∙ ap (λ (n : Node). suc (passed new (getD (n .sources) 0 0))) node
@@ -94,11 +95,11 @@ module _ (N : Net) (f : Timing) (Z : ℕ → ℕ → ℕ) where
     -- ---- node by node
 
     registers-to-entry : (u c v : ℕ) → Stands N f Z u c → nodeAt new v ≡ nodeOf N f Z (Entry u c) → registersTo new v ≡ wiresTo u
-    unfolding registersTo wiresTo elementAt source nodeOf sources
+    unfolding registersTo wiresTo elementAt source nodeOf
     registers-to-entry u c v s e =
         ap (λ (n : Node). total (map (λ p. passed new (getD (n .sources) p 0)) (below (operands (n .element))))) e
         ∙ ap total (listed-same (λ p. passed new (getD (nodeOf N f Z (Entry u c) .sources) p 0)) (countOn N f Z u) (operands (nodeOf N f Z (Entry u c) .element))
-        (λ p q. ap (passed new) (source-new N f Z u c p q) ∙ passed-new u c p s (used-new N f Z u c p q)))
+        (λ p q. ap (passed new) (place-source N f Z u c p q) ∙ passed-new u c p s (used-new N f Z u c p q)))
         ∙ ap (λ (n : ℕ). total (map (countOn N f Z u) (below n))) (operands-new (elementAt N u) (newTable N f Z u) c)
 
     at-place : (pl : Place) (v : ℕ) → Sound N f Z pl → numberOf N f Z pl ≡ v → nodeAt new v ≡ nodeOf N f Z pl → v < firsts N f Z ok → registersTo new v ≡ readerOf pl
@@ -115,7 +116,7 @@ module _ (N : Net) (f : Timing) (Z : ℕ → ℕ → ℕ) where
         let h : v < length (places N f Z) = omega (arith, length-append (entryPlaces N f Z) (regPlaces N f Z)) in
         let pl = getD (places N f Z) v noPlace in
         getD-listed (registersTo new) (length (entryPlaces N f Z)) v 0 k
-        ∙ at-place pl v (places-sound N f Z v h) (number-of-place N f Z v h) (node-new N f Z v h) k
+        ∙ at-place pl v (places-sound N f Z v h) (number-of-place N f Z v h) (place-node N f Z v h) k
         ∙ ap readerOf (List·getD-append (entryPlaces N f Z) (regPlaces N f Z) noPlace v k)
         ∙ sym (getD-map-lt readerOf (entryPlaces N f Z) v noPlace 0 k))
 
@@ -123,7 +124,7 @@ module _ (N : Net) (f : Timing) (Z : ℕ → ℕ → ℕ) where
     unfolding places
     registers-are =
         let last = registers-last N f Z ok rooted in
-        omega (arith, sources-others new, source-count last, size-new N f Z, length-append (entryPlaces N f Z) (regPlaces N f Z))
+        omega (arith, sources-others new, source-count last, size-places N f Z, length-append (entryPlaces N f Z) (regPlaces N f Z))
 
     -- the sum is all registers
     pub total-by-reader : total (byReader new) ≡ countOf isRegister new
