@@ -68,6 +68,7 @@ pub mod LateDebtLaws
 pub mod LateStartedFile
 pub mod LateStart
 pub mod LateRefusals
+pub mod Modes
 pub mod Computing
 pub mod Bench
 pub mod LateBench
