@@ -1,5 +1,5 @@
 -- Words that are wanted of a netlist which runs from reset with all inputs 0: place k wants the word of node `wanted k` at clock `clocks k`, or none where that is
--- 65,535. Assumes nothing.
+-- 65,534 or 65,535. Assumes nothing.
 use mathlib.Core.Path.{_≡_, refl, sym, ap, subst, _∙_}
 use mathlib.Core.Logic.{⊎-elim}
 use mathlib.Core.List.{List}
@@ -16,12 +16,12 @@ use Rattle.first_clocks.specs.Queue.{TakenTo}
 
 -- a place that wants a word wants it of a node
 abbrev pub OfNodes : Net → List ℕ → List ℕ → Type 0
-OfNodes N clocks wanted = (k : ℕ) → k < length clocks → getD clocks k 0 < 65535 → getD wanted k 0 < size N
+OfNodes N clocks wanted = (k : ℕ) → k < length clocks → getD clocks k 0 < 65534 → getD wanted k 0 < size N
 
 -- every word that is wanted is taken, and nothing else has changed
 pub record Taken (N : Net) (clocks wanted before after : List ℕ) : Type 0 where
-  pub given : (k : ℕ) → k < length clocks → getD clocks k 0 < 65535 → getD after k 0 ≡ zeroWord N (getD clocks k 0) (getD wanted k 0)
-  pub others : (k : ℕ) → 65535 ≤ getD clocks k 0 → getD after k 0 ≡ getD before k 0
+  pub given : (k : ℕ) → k < length clocks → getD clocks k 0 < 65534 → getD after k 0 ≡ zeroWord N (getD clocks k 0) (getD wanted k 0)
+  pub others : (k : ℕ) → 65534 ≤ getD clocks k 0 → getD after k 0 ≡ getD before k 0
 
 -- the words of clock t stand in a list
 abbrev pub WordsAt : Net → ℕ → List ℕ → Type 0
@@ -41,17 +41,17 @@ module _ (N : Net) (clocks wanted before : List ℕ) where
   -- the places from k on; all words are due before so many clocks, and no place of the others counts as due
   pub record NamedFrom (dues names : List ℕ) (limit k : ℕ) : Type 0 where
     pub kept : length names ≡ length before
-    pub named : (j : ℕ) → k ≤ j → j < length clocks → getD clocks j 0 < 65535 → HeldAt N clocks wanted dues j (getD names j 0)
-    pub early : (j : ℕ) → k ≤ j → j < length clocks → getD clocks j 0 < 65535 → getD dues j 0 < limit
-    pub some : (j : ℕ) → j < 3072 → getD dues j 0 < 65535 → (k ≤ j) × (j < length clocks) × (getD clocks j 0 < 65535)
-    pub others : (j : ℕ) → 65535 ≤ getD clocks j 0 → getD names j 0 ≡ getD before j 0
+    pub named : (j : ℕ) → k ≤ j → j < length clocks → getD clocks j 0 < 65534 → HeldAt N clocks wanted dues j (getD names j 0)
+    pub early : (j : ℕ) → k ≤ j → j < length clocks → getD clocks j 0 < 65534 → getD dues j 0 < limit
+    pub some : (j : ℕ) → j < 3072 → getD dues j 0 < 65535 → (k ≤ j) × (j < length clocks) × (getD clocks j 0 < 65534)
+    pub others : (j : ℕ) → 65534 ≤ getD clocks j 0 → getD names j 0 ≡ getD before j 0
 
   pub named-none : {dues : List ℕ} → ((j : ℕ) → j < 3072 → getD dues j 0 ≡ 65535) → NamedFrom dues before 0 (length clocks)
   named-none e = record { kept = refl; named = λ j a b. absurd (omega arith); early = λ j a b. absurd (omega arith); some = λ j l q. absurd (omega (arith, e j l)); others = λ j h. refl }
 
   module _ {dues names : List ℕ} {limit k : ℕ} (s : NamedFrom dues names limit (k + 1)) where
     -- place k wants no word
-    pub named-idle : 65535 ≤ getD clocks k 0 → NamedFrom dues names limit k
+    pub named-idle : 65534 ≤ getD clocks k 0 → NamedFrom dues names limit k
     named-idle h = record {
       kept = s .kept;
       named = λ j a b q. s .named j (after j a q) b q;
@@ -60,14 +60,14 @@ module _ (N : Net) (clocks wanted before : List ℕ) where
       others = s .others;
     }
       where
-        after : (j : ℕ) → k ≤ j → getD clocks j 0 < 65535 → k + 1 ≤ j
+        after : (j : ℕ) → k ≤ j → getD clocks j 0 < 65534 → k + 1 ≤ j
         after j a q = elim (ℕ-discrete j k) [
           | yes e ↦ absurd (omega (arith, ap (λ (i : ℕ). getD clocks i 0) e))
           | no e ↦ omega arith
         ]
 
     -- place k wants the word that u has at clock d
-    module _ {u d more : ℕ} (wants : getD clocks k 0 < 65535) (inside : u < size N) (same : zeroWord N (getD clocks k 0) (getD wanted k 0) ≡ zeroWord N d u)
+    module _ {u d more : ℕ} (wants : getD clocks k 0 < 65534) (inside : u < size N) (same : zeroWord N (getD clocks k 0) (getD wanted k 0) ≡ zeroWord N d u)
         (l : limit ≤ more) (due : d < more) (low : k < length clocks) (a : k < length dues) (b : k < length before) where
       pub named-more : NamedFrom (set dues k d) (set names k u) more k
       named-more = record {
@@ -94,15 +94,15 @@ module _ (N : Net) (clocks wanted before : List ℕ) where
 
 -- a place whose word is due at some clock wants one
 abbrev pub Asked : List ℕ → List ℕ → Type 0
-Asked clocks dues = (k : ℕ) → k < 3072 → getD dues k 0 < 65535 → getD clocks k 0 < 65535
+Asked clocks dues = (k : ℕ) → k < 3072 → getD dues k 0 < 65535 → getD clocks k 0 < 65534
 
 module _ (N : Net) (clocks wanted dues before : List ℕ) where
   -- what is due before clock t is taken, and what is due later is named as before
   pub record TakenBefore (after : List ℕ) (t : ℕ) : Type 0 where
     pub kept : length after ≡ length before
-    pub given : (k : ℕ) → k < length clocks → getD clocks k 0 < 65535 → getD dues k 0 < t → getD after k 0 ≡ zeroWord N (getD clocks k 0) (getD wanted k 0)
-    pub named : (k : ℕ) → k < length clocks → getD clocks k 0 < 65535 → t ≤ getD dues k 0 → HeldAt N clocks wanted dues k (getD after k 0)
-    pub others : (k : ℕ) → 65535 ≤ getD clocks k 0 → getD after k 0 ≡ getD before k 0
+    pub given : (k : ℕ) → k < length clocks → getD clocks k 0 < 65534 → getD dues k 0 < t → getD after k 0 ≡ zeroWord N (getD clocks k 0) (getD wanted k 0)
+    pub named : (k : ℕ) → k < length clocks → getD clocks k 0 < 65534 → t ≤ getD dues k 0 → HeldAt N clocks wanted dues k (getD after k 0)
+    pub others : (k : ℕ) → 65534 ≤ getD clocks k 0 → getD after k 0 ≡ getD before k 0
 
   pub taken-none : {names : List ℕ} {limit : ℕ} → NamedFrom N clocks wanted before dues names limit 0 → TakenBefore names 0
   taken-none s = record { kept = s .kept; given = λ k l q h. absurd (not-suc-le-zero h); named = λ k l q h. s .named k (omega arith) l q; others = s .others }

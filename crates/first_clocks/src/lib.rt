@@ -19,6 +19,7 @@ use holders::Held;
 use holders::holder_at;
 use queue::enqueue;
 use queue::take_due;
+use wires::NEVER;
 ghost use mathlib.Core.Path.{_≡_};
 ghost use mathlib.Core.Bool.{true};
 ghost use mathlib.Core.List.{List};
@@ -157,7 +158,7 @@ fn name_holders(
     while 0 < k {
         k = k - 1;
         let clock = clocks[k];
-        if clock == 65535 {
+        if NEVER <= clock {
             continue;
         }
         let v = wide(number_at(wanted, k));
@@ -197,7 +198,7 @@ fn take_later(
     }
 }
 
-// Takes all words that are wanted, from the words of the first clock on. Place k wants the word of node wanted[k] at clock clocks[k], or none where that is 65,535.
+// Takes all words that are wanted, from the words of the first clock on. Place k wants the word of node wanted[k] at clock clocks[k], or none where that is NEVER or more.
 // The queue is a work area.
 pub fn first_words(
     file: &[u8],

@@ -69,6 +69,7 @@ pub mod LateStartedFile
 pub mod LateStart
 pub mod LateRefusals
 pub mod Modes
+pub mod ModeLaws
 pub mod Computing
 pub mod Bench
 pub mod LateBench

@@ -20,6 +20,9 @@ pub const PASSES: usize = 2048;
 
 pub const TIMING: usize = 3072;
 
+// A clock that never comes: from it on no word is wanted.
+pub const NEVER: u16 = 65534;
+
 // The passes of a register that is not traced yet: no wire passes so many.
 const WAITS: u16 = 65535;
 

@@ -11,8 +11,9 @@ use Rattle.lists.specs.BelowLaws.{true-or-false}
 use Rattle.lists.specs.Linked as linked
 use Rattle.lists.specs.Sections.{section-length, section-read, section-put, section-before, section-after, last-read, last-put}
 use Rattle.netlist.specs.Net.{Net, size, elementAt, isMemory}
-use Rattle.retiming.specs.Rewrite.{memoryAt}
-use Rattle.wiring.specs.Wiring.{endsIn, clocksIn, headsIn, wireAt, WiredTo}
+use Rattle.retiming.specs.Rewrite.{Timing, memoryAt}
+use Rattle.wiring.specs.Wiring.{endsIn, clocksIn, headsIn, wireAt, lastClock, WiredTo}
+use Rattle.wiring.specs.WiringLaws.{asked-small}
 
 -- r is the first wire from k on that ends at u, or there is none
 abbrev pub From : List ℕ → ℕ → ℕ → ℕ → ℕ → Type 0
@@ -84,15 +85,15 @@ module _ (l : List ℕ) {m : List ℕ} {wires w u : ℕ} (few : wires ≤ 3072) 
 
 -- ---- every wire of a ROM has a clock
 
-module _ {N : Net} {ends froms clocks heads links : List ℕ} (w : WiredTo N ends froms clocks (3 * size N)) (small : size N ≤ 1024) (t : LinkedFrom ends clocks (3 * size N) heads links 0) where
+module _ {N : Net} {f : Timing} {ends froms clocks heads links : List ℕ} (w : WiredTo N f ends froms clocks (3 * size N)) (small : size N ≤ 1024) (t : LinkedFrom ends clocks (3 * size N) heads links 0) where
   every : (u : ℕ) → u < size N → isMemory (elementAt N u) ≡ true → (j : ℕ) → j < 3 * size N → getD ends j 0 ≡ u → getD clocks j 0 < 65535
   unfolding memoryAt
-  every u h m j l e = ⊎-elim wire (λ g. absurd (omega (arith, w .gaps j l g .end))) (true-or-false (wireAt N j))
+  every u h m j l e = ⊎-elim wire (λ g. absurd (omega (arith, w .gaps j l g .end))) (true-or-false (wireAt N f j))
     where
-      wire : wireAt N j ≡ true → getD clocks j 0 < 65535
+      wire : wireAt N f j ≡ true → getD clocks j 0 < 65535
       wire g =
           let x = w .wires j l g in
-          omega (arith, x .rom (ap (λ (v : ℕ). isMemory (elementAt N v)) (sym (x .end) ∙ e) ∙ m), x .early)
+          omega (arith, x .rom (ap (λ (v : ℕ). isMemory (elementAt N v)) (sym (x .end) ∙ e) ∙ m), asked-small (lastClock N f j) (f .origin) (x .early))
 
   -- so the linked ones are all that end there
   all-linked : (u k r : ℕ) → u < size N → isMemory (elementAt N u) ≡ true → linked.From (Listed ends clocks) (3 * size N) u k r → From ends (3 * size N) u k r

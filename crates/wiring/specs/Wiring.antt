@@ -1,6 +1,6 @@
 -- The wires of a netlist in a row: wire k is the one to operand k % 3 of node k / 3, where there is one. Assumes nothing.
 use mathlib.Core.Path.{_≡_, refl}
-use mathlib.Core.Bool.{Bool, true, false}
+use mathlib.Core.Bool.{Bool, true, false, cond}
 use mathlib.Core.List.{List}
 use Prim.Native.Nat.{ℕ, _+_, _-_, _*_, _/_, _%_, _≤_, _<_}
 use lib.ListN.{getD}
@@ -13,21 +13,20 @@ use Rattle.netlist.specs.declared.Element.the-variants.{Input, Output, Register
 use Rattle.netlist.specs.Net.{Net, size, elementAt, source}
 use Rattle.netlist.specs.Checks.{WellFormed}
 use Rattle.behaviour.specs.Run.{zeroWord}
-use Rattle.retiming.specs.Leads.{lead, closedDebt}
-use Rattle.retiming.specs.Rewrite.{root, passed, ownHere, memoryAt, oldOn, registersOn, countOn, copyOn, timing, timingBy}
-use Rattle.leads.specs.Settled.{LeadsIn}
+use Rattle.retiming.specs.Rewrite.{Timing, root, passed, ownHere, memoryAt, oldOn, registersOn, countOn, copyOn}
+use Rattle.retiming.specs.ModeLaws.{Suits}
 use Rattle.wires.specs.Traced.{rootsIn, passesIn, AllTraced}
 
--- what the rewriter knows of a netlist before it plans: 6 to 11 are passed, and three lists hold the leads and where the wires come from
-pub record Ready (N : Net) (leads roots passes : List ℕ) : Type 0 where
+-- what the rewriter knows of a netlist before it plans: 6 to 12 are passed, so that a timing suits it, and three lists hold the leads and where the wires come from
+pub record Ready (N : Net) (f : Timing) (leads roots passes : List ℕ) : Type 0 where
   pub formed : WellFormed N
-  pub debtless : closedDebt N ≡ false
-  pub leads-in : LeadsIn N leads
+  pub suits : Suits N f
+  pub leads-in : (v : ℕ) → v < size N → getD leads v 0 ≡ f .lead v
   pub traced : AllTraced N roots passes
 
 -- and they are sections of one area
-abbrev pub Timed : Net → List ℕ → Type 0
-Timed N timing = Ready N timing (rootsIn timing) (passesIn timing)
+abbrev pub Timed : Net → Timing → List ℕ → Type 0
+Timed N f timing = Ready N f timing (rootsIn timing) (passesIn timing)
 
 -- the sections of the wires' area: the roots, the sources and the clocks of the wires, and the first wire of each ROM
 abbrev pub endsIn : List ℕ → List ℕ
@@ -43,12 +42,16 @@ abbrev pub headsIn : List ℕ → List ℕ
 headsIn l = section 9216 1024 l
 
 -- how many registers stand as nodes of their own on the wire from s to x, in the rewritten netlist
-unfoldable pub countFrom : Net → ℕ → ℕ → ℕ
-countFrom N x s = ((passed N s + ownHere N (root N s) + lead N (root N s)) - lead N x) - one (memoryAt N (root N s))
+unfoldable pub countFrom : Net → Timing → ℕ → ℕ → ℕ
+countFrom N f x s = ((passed N s + ownHere N (root N s) + f .lead (root N s)) - f .lead x) - one (memoryAt N (root N s))
 
-pub count-from : (N : Net) (x p : ℕ) → countOn N (timing N) (zeroWord N) x p ≡ countFrom N x (source N x p)
-unfolding countOn registersOn oldOn countFrom timing timingBy lead
-count-from N x p = refl
+pub count-from : (N : Net) (f : Timing) (x p : ℕ) → countOn N f (zeroWord N) x p ≡ countFrom N f x (source N x p)
+unfolding countOn registersOn oldOn countFrom
+count-from N f x p = refl
+
+-- the clock at which a word is asked for, n counted from the origin: none before it, where every word is 0
+unfoldable pub askedClock : ℕ → ℕ → ℕ
+askedClock origin n = cond (ltb n origin) 65534 (n - origin)
 
 -- how many wires end at a node: none at a register
 abbrev pub wiresTo : Element → ℕ
@@ -59,30 +62,34 @@ wiresTo (Async m) = 1
 wiresTo (Clocked m r) = 1
 wiresTo (Gate o) = operandsOf o
 
-module _ (N : Net) where
-  -- the reader and the source of wire k
-  abbrev pub readerOf : ℕ → ℕ
-  readerOf k = k / 3
+-- the reader and the source of wire k
+abbrev pub readerOf : ℕ → ℕ
+readerOf k = k / 3
 
-  abbrev pub sourceOf : ℕ → ℕ
-  sourceOf k = source N (k / 3) (k % 3)
+abbrev pub sourceOf : Net → ℕ → ℕ
+sourceOf N k = source N (k / 3) (k % 3)
+
+module _ (N : Net) (f : Timing) where
+  -- and at a node that is left out
+  unfoldable pub wireCount : ℕ → ℕ
+  wireCount x = cond (f .keeps x) (wiresTo (elementAt N x)) 0
 
   -- there is a wire k
   unfoldable pub wireAt : ℕ → Bool
-  wireAt k = ltb (k % 3) (wiresTo (elementAt N (k / 3)))
+  wireAt k = ltb (k % 3) (wireCount (k / 3))
 
-  -- the clock at which the register nearest its root, counted as one more, would have its reset word from
+  -- the clock, counted from the origin, at which the register nearest its root, counted as one more, would have its reset word from
   unfoldable pub lastClock : ℕ → ℕ
-  lastClock k = countFrom N (readerOf k) (sourceOf k) + lead N (readerOf k)
+  lastClock k = countFrom N f (readerOf k) (sourceOf N k) + f .lead (readerOf k)
 
   module _ (ends froms clocks : List ℕ) where
     -- what three lists hold of a wire: its root, its source, and where the root is a ROM the clock of its reset word
     pub record Wired (k : ℕ) : Type 0 where
-      pub end : getD ends k 0 ≡ root N (sourceOf k)
-      pub from : getD froms k 0 ≡ sourceOf k
-      pub early : lastClock k < 65535
-      pub rom : memoryAt N (root N (sourceOf k)) ≡ true → getD clocks k 0 ≡ lastClock k
-      pub other : memoryAt N (root N (sourceOf k)) ≡ false → getD clocks k 0 ≡ 65535
+      pub end : getD ends k 0 ≡ root N (sourceOf N k)
+      pub from : getD froms k 0 ≡ sourceOf N k
+      pub early : lastClock k < 65534
+      pub rom : memoryAt N (root N (sourceOf N k)) ≡ true → getD clocks k 0 ≡ askedClock (f .origin) (lastClock k)
+      pub other : memoryAt N (root N (sourceOf N k)) ≡ false → getD clocks k 0 ≡ 65535
 
     -- and where there is none
     pub record Unwired (k : ℕ) : Type 0 where
@@ -101,4 +108,4 @@ module _ (N : Net) where
 
   -- a list has the reset word that each wire's root needs for it
   abbrev pub Copied : List ℕ → Type 0
-  Copied copied = (k : ℕ) → k < 3 * size N → wireAt k ≡ true → getD copied k 0 ≡ copyOn N (timing N) (zeroWord N) (k / 3) (k % 3)
+  Copied copied = (k : ℕ) → k < 3 * size N → wireAt k ≡ true → getD copied k 0 ≡ copyOn N f (zeroWord N) (k / 3) (k % 3)

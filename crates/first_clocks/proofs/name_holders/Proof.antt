@@ -79,7 +79,7 @@ holder-at-requires c κs =
     let s = c .before .before .before .before .before .loop in
     let k : ℕ = s .k - 1 in
     let low : k < length (a .clocks .now) = omega (arith, s .inv .0, c .before .before .before .before .loop-test .taken) in
-    let wants : getD (a .clocks .now) k 0 < 65535 = omega (arith, c .before .before .if1 .left, c .before .before .before .shared-slice-known6 .given k) in
+    let wants : getD (a .clocks .now) k 0 < 65534 = omega (arith, c .before .before .if1 .left, c .before .before .before .shared-slice-known6 .given k) in
     (p .0, (p .1 .0, p .1 .1, p .1 .2, omega (arith, c .wide .ensures .0, c .before .number-at .ensures, p .1 .3 k low wants), s .inv .3))
 
 sub-due : tie.Need-sub-due Inv-loop μ-loop
@@ -119,7 +119,7 @@ loop-again-2 c =
     let v : c .before .before .before .before .before .before .before .before .before .before .before .before .before .wide .result ≡ getD (a .wanted .now) k 0 = c .before .before .before .before .before .before .before .before .before .before .before .before .before .wide .ensures .0 ∙ c .before .before .before .before .before .before .before .before .before .before .before .before .before .before .number-at .ensures in
     let e : s .k ≡ k + 1 = omega (arith, c .before .before .before .before .before .before .before .before .before .before .before .before .before .before .before .before .before .loop-test .taken) in
     let low : k < length (a .clocks .now) = omega (arith, s .inv .0, c .before .before .before .before .before .before .before .before .before .before .before .before .before .before .before .before .before .loop-test .taken) in
-    let wants : clock < 65535 = omega (arith, c .before .before .before .before .before .before .before .before .before .before .before .before .before .before .before .if1 .left, c .before .before .before .before .before .before .before .before .before .before .before .before .before .before .before .before .shared-slice-known6 .given k) in
+    let wants : clock < 65534 = omega (arith, c .before .before .before .before .before .before .before .before .before .before .before .before .before .before .before .if1 .left, c .before .before .before .before .before .before .before .before .before .before .before .before .before .before .before .before .shared-slice-known6 .given k) in
     let same : zeroWord N clock (getD (a .wanted .now) k 0) ≡ zeroWord N d (h .result .holder) =
     ap (zeroWord N clock) (sym v) ∙ ap (λ (t : ℕ). zeroWord N t (c .before .before .before .before .before .before .before .before .before .before .before .before .before .wide .result)) (let q : clock ≡ h .result .back + d = omega (arith, h .ensures .2) in q) ∙ b .same d in
     let n = subst (NamedFrom N (a .clocks .now) (a .wanted .now) (a .found .now) (duesIn (s .queue)) (s .found) (s .limit)) e (s .inv .4) in

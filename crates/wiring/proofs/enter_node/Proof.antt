@@ -3,19 +3,20 @@ use mathlib.Core.Path.{_≡_, refl, subst, _∙_}
 use Prim.Native.Nat.{ℕ, _+_, _-_, _*_, _/_, _%_, _≤_}
 use native.Mathlib.Omega.{arith}
 use lib.ListN.{length}
-use Rattle.netlist.specs.Net.{elementAt}
 use Rattle.circuit.specs.Circuit.{netOf}
-use Rattle.wiring.specs.Wiring.{wiresTo, headsIn, Entered}
+use Rattle.retiming.specs.Rewrite.{Timing}
+use Rattle.retiming.specs.Modes.{modeTiming}
+use Rattle.wiring.specs.Wiring.{wireCount, headsIn, Entered}
 use Rattle.wiring.specs.WiringLaws.{wired-gap, wired-at, wire-missing}
 use borrow.Author.Needs.{needs}
 use Rattle.wiring.proofs.enter_node.Statement.{statement}
 use Rattle.wiring.proofs.enter_node.Tie as tie
 
 abbrev Inv-loop : tie.InvT-loop
-Inv-loop file net timing x wires₀ n p₀ wires p = (p ≤ n) × (length wires ≡ length wires₀) × Entered (netOf file net) wires (3 * x + p) × (headsIn wires ≡ headsIn wires₀)
+Inv-loop file net mode timing x wires₀ n p₀ wires p = (p ≤ n) × (length wires ≡ length wires₀) × Entered (netOf file net) (modeTiming mode (netOf file net)) wires (3 * x + p) × (headsIn wires ≡ headsIn wires₀)
 
 abbrev μ-loop : tie.MeasureT-loop
-μ-loop file net timing x wires₀ n p₀ wires p = n - p
+μ-loop file net mode timing x wires₀ n p₀ wires p = n - p
 
 wires-to-requires : tie.Need-wires-to-requires Inv-loop μ-loop
 wires-to-requires c κs = search needs
@@ -44,7 +45,7 @@ loop-again c =
     let p : ℕ = c .before .before .before .before .before .loop .p in
     let i = c .before .before .before .before .before .loop .inv in
     let w = c .before .before .enter-wire .ensures in
-    (omega (arith, c .before .before .before .before .loop-test .taken), c .before .before .enter-wire .kept .1 .1 .1 .1 .1 .0 ∙ i .1, wired-at (let e : 3 * x + p + 1 ≡ 3 * x + (p + 1) = omega arith in e) (w .0), w .1 ∙ i .3)
+    (omega (arith, c .before .before .before .before .loop-test .taken), c .before .before .enter-wire .kept .1 .1 .1 .1 .1 .1 .0 ∙ i .1, wired-at (let e : 3 * x + p + 1 ≡ 3 * x + (p + 1) = omega arith in e) (w .0), w .1 ∙ i .3)
 
 same-length : tie.Need-same-length Inv-loop μ-loop
 same-length c = c .before .loop .inv .1
@@ -55,9 +56,10 @@ returns c =
     let N = netOf (a .file .now) (a .net .now) in
     let i = c .before .loop .inv in
     let w = c .before .before .wires-to .ensures in
-    let done : c .before .loop .p ≡ wiresTo (elementAt N (a .x)) = omega (arith, w .0, i .0, c .loop-test .left) in (
+    let f : Timing = modeTiming (a .mode) N in
+    let done : c .before .loop .p ≡ wireCount N f (a .x) = omega (arith, w .0, i .0, c .loop-test .left) in (
       wired-gap (i .2) (3 * a .x + 3) (omega (arith, i .0, w .1)) (omega (arith, c .before .before .before .before .before .before .before .pre .1 .2, c .before .before .before .before .before .before .before .pre .0 .few))
-          (λ j l m. wire-missing N j (subst (λ (y : ℕ). wiresTo (elementAt N y) ≤ j % 3) (let e : a .x ≡ j / 3 = omega arith in e) (omega (arith, done)))),
+          (λ j l m. wire-missing N f j (subst (λ (y : ℕ). wireCount N f y ≤ j % 3) (let e : a .x ≡ j / 3 = omega arith in e) (omega (arith, done)))),
       i .3,
     )
 

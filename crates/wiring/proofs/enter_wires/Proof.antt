@@ -5,6 +5,7 @@ use native.Mathlib.Omega.{arith}
 use lib.ListN.{length}
 use Rattle.netlist.specs.Net.{size}
 use Rattle.circuit.specs.Circuit.{netOf}
+use Rattle.retiming.specs.Modes.{modeTiming}
 use Rattle.wiring.specs.Wiring.{headsIn, Entered}
 use Rattle.wiring.specs.WiringLaws.{wired-at}
 use borrow.Author.Needs.{needs}
@@ -12,10 +13,10 @@ use Rattle.wiring.proofs.enter_wires.Statement.{statement}
 use Rattle.wiring.proofs.enter_wires.Tie as tie
 
 abbrev Inv-loop : tie.InvT-loop
-Inv-loop file net timing wires₀ n x₀ wires x = (x ≤ n) × (length wires ≡ length wires₀) × Entered (netOf file net) wires (3 * x) × (headsIn wires ≡ headsIn wires₀)
+Inv-loop file net mode timing wires₀ n x₀ wires x = (x ≤ n) × (length wires ≡ length wires₀) × Entered (netOf file net) (modeTiming mode (netOf file net)) wires (3 * x) × (headsIn wires ≡ headsIn wires₀)
 
 abbrev μ-loop : tie.MeasureT-loop
-μ-loop file net timing wires₀ n x₀ wires x = n - x
+μ-loop file net mode timing wires₀ n x₀ wires x = n - x
 
 node-count-requires : tie.Need-node-count-requires Inv-loop μ-loop
 node-count-requires c κs = search needs
@@ -40,7 +41,7 @@ loop-again c =
     let x : ℕ = c .before .before .before .before .before .loop .x in
     let i = c .before .before .before .before .before .loop .inv in
     let w = c .before .before .enter-node .ensures in
-    (omega (arith, c .before .before .before .before .loop-test .taken), c .before .before .enter-node .kept .1 .1 .1 .1 .0 ∙ i .1, wired-at (let e : 3 * x + 3 ≡ 3 * (x + 1) = omega arith in e) (w .0), w .1 ∙ i .3)
+    (omega (arith, c .before .before .before .before .loop-test .taken), c .before .before .enter-node .kept .1 .1 .1 .1 .1 .0 ∙ i .1, wired-at (let e : 3 * x + 3 ≡ 3 * (x + 1) = omega arith in e) (w .0), w .1 ∙ i .3)
 
 same-length : tie.Need-same-length Inv-loop μ-loop
 same-length c = c .before .loop .inv .1
