@@ -7,7 +7,7 @@ use lib.Dec.{eqb}
 use Rattle.lists.specs.Lists.{below, concatMap, only, addNew, distinct}
 use Rattle.netlist.specs.Net.{Net, size}
 use Rattle.behaviour.specs.Run.{zeroWord}
-use Rattle.retiming.specs.Rewrite.{Place, Entry, copiesOf, entriesOf, entryPlaces, timing}
+use Rattle.retiming.specs.Rewrite.{Timing, Place, Entry, copiesOf, entriesOf, entryPlaces}
 use Rattle.retiming.specs.Layout.{noPlace}
 
 -- where a search for a word from one place up to another stops: at the first that has it, or at the end
@@ -38,8 +38,8 @@ abbrev pub wantedOf : List ℕ → List ℕ → ℕ → ℕ → List ℕ
 wantedOf ends copied u k = concatMap (λ j. only (eqb (getD ends j 0) u) (getD copied j 0)) (below k)
 
 -- those of all wires are the definition's
-abbrev pub Wants : Net → List ℕ → List ℕ → Type 0
-Wants N ends copied = (u : ℕ) → u < size N → concatMap (copiesOf N (timing N) (zeroWord N) u) (below (size N)) ≡ wantedOf ends copied u (3 * size N)
+abbrev pub Wants : Net → Timing → List ℕ → List ℕ → Type 0
+Wants N f ends copied = (u : ℕ) → u < size N → concatMap (copiesOf N f (zeroWord N) u) (below (size N)) ≡ wantedOf ends copied u (3 * size N)
 
 -- what comes of adding all of them
 pub record AddsAll (u first k r : ℕ) (ends copied owners words owners′ words′ : List ℕ) : Type 0 where
@@ -47,14 +47,14 @@ pub record AddsAll (u first k r : ℕ) (ends copied owners words owners′ words
   pub adds : (pre : List Place) → first ≡ length pre → Placing owners words pre first → Placing owners′ words′ (pre ++ map (Entry u) (distinct (wantedOf ends copied u k))) r
 
 -- the entries of the first u nodes
-unfoldable pub entriesBefore : Net → ℕ → List Place
-entriesBefore N u = concatMap (entriesOf N (timing N) (zeroWord N)) (below u)
+unfoldable pub entriesBefore : Net → Timing → ℕ → List Place
+entriesBefore N f u = concatMap (entriesOf N f (zeroWord N)) (below u)
 
 -- where those of each node begin
-abbrev pub Firsts : Net → List ℕ → ℕ → Type 0
-Firsts N firsts u = (v : ℕ) → v < u → getD firsts v 0 ≡ length (entriesBefore N v)
+abbrev pub Firsts : Net → Timing → List ℕ → ℕ → Type 0
+Firsts N f firsts u = (v : ℕ) → v < u → getD firsts v 0 ≡ length (entriesBefore N f v)
 
 -- all are placed
-pub record AllPlaced (N : Net) (owners words firsts : List ℕ) (count : ℕ) : Type 0 where
-  pub exact : count ≤ 1024 → (count ≡ length (entryPlaces N (timing N) (zeroWord N))) × Stored owners words (entryPlaces N (timing N) (zeroWord N)) × Firsts N firsts (size N)
-  pub over : 1024 < count → 1024 < length (entryPlaces N (timing N) (zeroWord N))
+pub record AllPlaced (N : Net) (f : Timing) (owners words firsts : List ℕ) (count : ℕ) : Type 0 where
+  pub exact : count ≤ 1024 → (count ≡ length (entryPlaces N f (zeroWord N))) × Stored owners words (entryPlaces N f (zeroWord N)) × Firsts N f firsts (size N)
+  pub over : 1024 < count → 1024 < length (entryPlaces N f (zeroWord N))

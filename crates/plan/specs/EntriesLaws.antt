@@ -19,11 +19,11 @@ use Rattle.netlist.specs.declared.Element.the-variants.{Input, Output, Register
 use Rattle.netlist.specs.Net.{Net, size, elementAt, source, operands, isRegister, isMemory}
 use Rattle.netlist.specs.NodeLaws.{few-operands}
 use Rattle.behaviour.specs.Run.{zeroWord}
-use Rattle.retiming.specs.Rewrite.{Place, Entry, Reg, root, memoryAt, stays, copyOn, copiesAt, copiesOf, copies, entriesOf, entryPlaces, timing, timingBy}
+use Rattle.retiming.specs.Rewrite.{Timing, Place, Entry, Reg, root, memoryAt, stays, copyOn, copiesAt, copiesOf, copies, entriesOf, entryPlaces}
 use Rattle.retiming.specs.Layout.{noPlace}
 use Rattle.lists.specs.Threes.{concat-next, concat-longer, inRow, row-of-three, in-threes}
-use Rattle.wiring.specs.Wiring.{wiresTo, wireAt, WiredTo, Copied}
-use Rattle.wiring.specs.WiringLaws.{wires-few}
+use Rattle.wiring.specs.Wiring.{wiresTo, wireCount, wireAt, WiredTo, Copied}
+use Rattle.wiring.specs.WiringLaws.{wires-few, count-wires}
 use Rattle.wiring.specs.Links.{From}
 use Rattle.plan.specs.Areas.{ownersIn, wordsIn, lateIn, firstsIn}
 use Rattle.plan.specs.Entries.{Finds, Stored, Placing, Adds, wantedOf, Wants, AddsAll, entriesBefore, Firsts, AllPlaced}
@@ -146,7 +146,7 @@ module _ (pre : List Place) (u : ℕ) (d : List ℕ) where
   pub copy-over : {owners words : List ℕ} {count : ℕ} (c : ℕ) → 1024 < count → Placing owners words so-far count → Placing owners words (pre ++ map (Entry u) (addNew c d)) count
   copy-over c o t = placing-over o (longer c) t
 
-  module _ {owners words : List ℕ} {c first count r : ℕ} (e : first ≡ length pre) (f : Finds words c first count r) (t : Placing owners words so-far count) where
+  module _ {owners words : List ℕ} {c first count r : ℕ} (e : first ≡ length pre) (seek : Finds words c first count r) (t : Placing owners words so-far count) where
     -- the word is there already
     pub copy-there : r < count → Placing owners words (pre ++ map (Entry u) (addNew c d)) count
     copy-there h = ⊎-elim (λ o. copy-over c o t) there (lt-or-le 1024 count)
@@ -157,9 +157,9 @@ module _ (pre : List Place) (u : ℕ) (d : List ℕ) where
             go : (count ≡ length so-far) × Stored owners words so-far → Placing owners words (pre ++ map (Entry u) (addNew c d)) count
             go (n, s) =
                 let j : ℕ = r - first in
-                let at : length pre + j ≡ r = omega (arith, f .after) in
-                let l : j < length d = omega (arith, so-far-length, f .after) in
-                let has-it : has c d ≡ true = has-some c d j l (sym (word-held owners words s j l) ∙ ap (λ (k : ℕ). getD words k 0) at ∙ f .found h) in
+                let at : length pre + j ≡ r = omega (arith, seek .after) in
+                let l : j < length d = omega (arith, so-far-length, seek .after) in
+                let has-it : has c d ≡ true = has-some c d j l (sym (word-held owners words s j l) ∙ ap (λ (k : ℕ). getD words k 0) at ∙ seek .found h) in
                 placing-as refl refl (ap (λ (l : List ℕ). pre ++ map (Entry u) l) (sym (add-none c d has-it))) t
 
     -- or it is added
@@ -172,7 +172,7 @@ module _ (pre : List Place) (u : ℕ) (d : List ℕ) where
             where
               go : (count ≡ length so-far) × Stored owners words so-far → Placing (set owners count u) (set words count c) (pre ++ map (Entry u) (addNew c d)) (count + 1)
               go (n, s) =
-                  let new : has c d ≡ false = has-none c d (λ j l q. f .passed (length pre + j) (omega arith) (omega (arith, so-far-length)) (word-held owners words s j l ∙ q)) in
+                  let new : has c d ≡ false = has-none c d (λ j l q. seek .passed (length pre + j) (omega arith) (omega (arith, so-far-length)) (word-held owners words s j l ∙ q)) in
                   placing-as refl refl
                   (append-assoc pre (map (Entry u) d) (Entry u c ∷ []) ∙ ap (λ (l : List Place). pre ++ l) (sym (map-append (Entry u) d (c ∷ []))) ∙ ap (λ (l : List ℕ). pre ++ map (Entry u) l) (sym (add-one c d new)))
                   (placing-more t a b u c)
@@ -198,67 +198,75 @@ module _ (ends copied : List ℕ) (u k : ℕ) where
 
 -- ---- the reset words of a ROM, by its wires in a row
 
-module _ {N : Net} {ends froms clocks : List ℕ} (copied : List ℕ) (w : WiredTo N ends froms clocks (3 * size N)) (made : Copied N copied) (small : size N ≤ 1024) (u : ℕ) (inside : u < size N) where
-  abbrev f : ℕ → List ℕ
-  f = copiesOf N (timing N) (zeroWord N) u
+module _ {N : Net} {f : Timing} {ends froms clocks : List ℕ} (copied : List ℕ) (w : WiredTo N f ends froms clocks (3 * size N)) (made : Copied N f copied) (small : size N ≤ 1024) (u : ℕ) (inside : u < size N) where
+  abbrev copied-to : ℕ → List ℕ
+  copied-to = copiesOf N f (zeroWord N) u
 
   abbrev h : ℕ → List ℕ
   h k = only (eqb (getD ends k 0) u) (getD copied k 0)
 
   -- a wire's word, and none where there is no wire
-  wire-wants : (x p : ℕ) → x < size N → p < 3 → p < wiresTo (elementAt N x) → h (3 * x + p) ≡ copiesAt N (timing N) (zeroWord N) u x p
+  wire-wants : (x p : ℕ) → x < size N → p < 3 → p < wireCount N f x → h (3 * x + p) ≡ copiesAt N f (zeroWord N) u x p
   unfolding copiesAt wireAt
   wire-wants x p k l g =
       let a : (3 * x + p) / 3 ≡ x = omega arith in
       let b : (3 * x + p) % 3 ≡ p = omega arith in
-      let t : wireAt N (3 * x + p) ≡ true = ap₂ (λ (i j : ℕ). ltb i (wiresTo (elementAt N j))) b a ∙ lt-ltb p (wiresTo (elementAt N x)) g in
+      let t : wireAt N f (3 * x + p) ≡ true = ap₂ (λ (i j : ℕ). ltb i (wireCount N f j)) b a ∙ lt-ltb p (wireCount N f x) g in
       let e : getD ends (3 * x + p) 0 ≡ root N (source N x p) = w .wires (3 * x + p) (omega arith) t .end ∙ ap₂ (λ (i j : ℕ). root N (source N i j)) a b in
-      let d : getD copied (3 * x + p) 0 ≡ copyOn N (timing N) (zeroWord N) x p = made (3 * x + p) (omega arith) t ∙ ap₂ (copyOn N (timing N) (zeroWord N)) a b in
+      let d : getD copied (3 * x + p) 0 ≡ copyOn N f (zeroWord N) x p = made (3 * x + p) (omega arith) t ∙ ap₂ (copyOn N f (zeroWord N)) a b in
       ap₂ (λ (i j : ℕ). only (eqb i u) j) e d
 
-  gap-wants : (x p : ℕ) → x < size N → p < 3 → wiresTo (elementAt N x) ≤ p → h (3 * x + p) ≡ []
+  gap-wants : (x p : ℕ) → x < size N → p < 3 → wireCount N f x ≤ p → h (3 * x + p) ≡ []
   unfolding wireAt
   gap-wants x p k l g =
       let a : (3 * x + p) / 3 ≡ x = omega arith in
       let b : (3 * x + p) % 3 ≡ p = omega arith in
-      let t : wireAt N (3 * x + p) ≡ false = ap₂ (λ (i j : ℕ). ltb i (wiresTo (elementAt N j))) b a ∙ le-ltb p (wiresTo (elementAt N x)) g in
+      let t : wireAt N f (3 * x + p) ≡ false = ap₂ (λ (i j : ℕ). ltb i (wireCount N f j)) b a ∙ le-ltb p (wireCount N f x) g in
       let e : getD ends (3 * x + p) 0 ≡ 65535 = w .gaps (3 * x + p) (omega arith) t .end in
       ap (λ (z : Bool). only z (getD copied (3 * x + p) 0)) (ne-eqb (getD ends (3 * x + p) 0) u (λ q. omega arith))
 
-  row-wants : (x p : ℕ) → x < size N → p < 3 → h (3 * x + p) ≡ inRow (wiresTo (elementAt N x)) (copiesAt N (timing N) (zeroWord N) u x) p
+  row-wants : (x p : ℕ) → x < size N → p < 3 → h (3 * x + p) ≡ inRow (wireCount N f x) (copiesAt N f (zeroWord N) u x) p
   row-wants x p k l =
-      ⊎-elim (λ g. wire-wants x p k l g ∙ sym (rw (lt-ltb p (wiresTo (elementAt N x)) g)))
-      (λ g. gap-wants x p k l g ∙ sym (rw (le-ltb p (wiresTo (elementAt N x)) g))) (lt-or-le p (wiresTo (elementAt N x)))
+      ⊎-elim (λ g. wire-wants x p k l g ∙ sym (rw (lt-ltb p (wireCount N f x) g)))
+      (λ g. gap-wants x p k l g ∙ sym (rw (le-ltb p (wireCount N f x) g))) (lt-or-le p (wireCount N f x))
 
-  -- the wires to x: none where it is a register
-  copies-row : (x : ℕ) → f x ≡ concatMap (copiesAt N (timing N) (zeroWord N) u x) (below (wiresTo (elementAt N x)))
-  unfolding copiesOf stays timing timingBy
-  copies-row x = by-element (elementAt N x)
+  -- the wires to x: none where it is a register, or left out
+  copies-row : (x : ℕ) → copied-to x ≡ concatMap (copiesAt N f (zeroWord N) u x) (below (wireCount N f x))
+  unfolding copiesOf stays wireCount
+  copies-row x = by-element (f .keeps x) (elementAt N x)
     where
-      by-element : (e : Element) → cond (not (isRegister e) && true) (concatMap (copiesAt N (timing N) (zeroWord N) u x) (below (operands e))) [] ≡ concatMap (copiesAt N (timing N) (zeroWord N) u x) (below (wiresTo e))
-      by-element Input = refl
-      by-element Output = refl
-      by-element (Register r) = refl
-      by-element (Async m) = refl
-      by-element (Clocked m r) = refl
-      by-element (Gate o) = refl
+      by-element : (k : Bool) (e : Element)
+          → cond (not (isRegister e) && k) (concatMap (copiesAt N f (zeroWord N) u x) (below (operands e))) [] ≡ concatMap (copiesAt N f (zeroWord N) u x) (below (cond k (wiresTo e) 0))
+      by-element true Input = refl
+      by-element true Output = refl
+      by-element true (Register r) = refl
+      by-element true (Async m) = refl
+      by-element true (Clocked m r) = refl
+      by-element true (Gate o) = refl
+      by-element false Input = refl
+      by-element false Output = refl
+      by-element false (Register r) = refl
+      by-element false (Async m) = refl
+      by-element false (Clocked m r) = refl
+      by-element false (Gate o) = refl
 
-  pub all-wanted : concatMap (copiesOf N (timing N) (zeroWord N) u) (below (size N)) ≡ wantedOf ends copied u (3 * size N)
-  all-wanted = in-threes f h (size N) (λ x k.
+  pub all-wanted : concatMap (copiesOf N f (zeroWord N) u) (below (size N)) ≡ wantedOf ends copied u (3 * size N)
+  all-wanted = in-threes copied-to h (size N) (λ x k.
       let z : 3 * x ≡ 3 * x + 0 = omega arith in
-      copies-row x ∙ row-of-three (wiresTo (elementAt N x)) (copiesAt N (timing N) (zeroWord N) u x) (omega (arith, wires-few (elementAt N x), few-operands (elementAt N x)))
+      copies-row x ∙ row-of-three (wireCount N f x) (copiesAt N f (zeroWord N) u x) (omega (arith, count-wires N f x, wires-few (elementAt N x), few-operands (elementAt N x)))
       ∙ sym (ap₂ _++_ (ap₂ _++_ (ap h z ∙ row-wants x 0 k (omega arith)) (row-wants x 1 k (omega arith))) (row-wants x 2 k (omega arith))))
 
 -- ---- one node more
 
-module _ (N : Net) (u : ℕ) where
-  entries-next : entriesBefore N (u + 1) ≡ entriesBefore N u ++ map (Entry u) (copies N (timing N) (zeroWord N) u)
+module _ (N : Net) (f : Timing) (u : ℕ) where
+  entries-next : entriesBefore N f (u + 1) ≡ entriesBefore N f u ++ map (Entry u) (copies N f (zeroWord N) u)
   unfolding entriesBefore entriesOf
-  entries-next = concat-next (entriesOf N (timing N) (zeroWord N)) u
+  entries-next = concat-next (entriesOf N f (zeroWord N)) u
 
-  copies-by : {e : Element} → e ≡ elementAt N u → copies N (timing N) (zeroWord N) u ≡ cond (not (isRegister e) && true) (cond (isMemory e) (distinct (concatMap (copiesOf N (timing N) (zeroWord N) u) (below (size N)))) (0 ∷ [])) []
-  unfolding copies stays memoryAt timing timingBy
-  copies-by q = ap (λ (e : Element). cond (not (isRegister e) && true) (cond (isMemory e) (distinct (concatMap (copiesOf N (timing N) (zeroWord N) u) (below (size N)))) (0 ∷ [])) []) (sym q)
+  copies-by : {e : Element} {k : Bool} → e ≡ elementAt N u → k ≡ f .keeps u
+      → copies N f (zeroWord N) u ≡ cond (not (isRegister e) && k) (cond (isMemory e) (distinct (concatMap (copiesOf N f (zeroWord N) u) (below (size N)))) (0 ∷ [])) []
+  unfolding copies stays memoryAt
+  copies-by q k = ap₂ (λ (e : Element) (k : Bool). cond (not (isRegister e) && k) (cond (isMemory e) (distinct (concatMap (copiesOf N f (zeroWord N) u) (below (size N)))) (0 ∷ [])) []) (sym q) (sym k)
 
   rom-stays : (e : Element) → isMemory e ≡ true → isRegister e ≡ false
   rom-stays Input h = refl
@@ -268,51 +276,59 @@ module _ (N : Net) (u : ℕ) where
   rom-stays (Clocked m r) h = refl
   rom-stays (Gate o) h = refl
 
-  module _ {e : Element} (q : e ≡ elementAt N u) where
-    pub entries-rom : isMemory e ≡ true → {l : List ℕ} → concatMap (copiesOf N (timing N) (zeroWord N) u) (below (size N)) ≡ l → entriesBefore N u ++ map (Entry u) (distinct l) ≡ entriesBefore N (u + 1)
-    entries-rom m {l} k =
-        let d : copies N (timing N) (zeroWord N) u ≡ distinct l = copies-by q ∙ rw (rom-stays e m, m) (ap distinct k) in
-        sym (entries-next ∙ ap (λ (d : List ℕ). entriesBefore N u ++ map (Entry u) d) d)
+  -- it is left out
+  pub entries-left : false ≡ f .keeps u → entriesBefore N f u ≡ entriesBefore N f (u + 1)
+  entries-left k = sym (entries-next ∙ ap (λ (d : List ℕ). entriesBefore N f u ++ map (Entry u) d) (copies-by refl k ∙ none (isRegister (elementAt N u)) _) ∙ append-nil (entriesBefore N f u))
+    where
+      none : (b : Bool) (l : List ℕ) → cond (not b && false) l [] ≡ []
+      none true l = refl
+      none false l = refl
 
-    pub entries-plain : isMemory e ≡ false → isRegister e ≡ false → entriesBefore N u ++ Entry u 0 ∷ [] ≡ entriesBefore N (u + 1)
+  module _ {e : Element} (q : e ≡ elementAt N u) (k : true ≡ f .keeps u) where
+    pub entries-rom : isMemory e ≡ true → {l : List ℕ} → concatMap (copiesOf N f (zeroWord N) u) (below (size N)) ≡ l → entriesBefore N f u ++ map (Entry u) (distinct l) ≡ entriesBefore N f (u + 1)
+    entries-rom m {l} is =
+        let d : copies N f (zeroWord N) u ≡ distinct l = copies-by q k ∙ rw (rom-stays e m, m) (ap distinct is) in
+        sym (entries-next ∙ ap (λ (d : List ℕ). entriesBefore N f u ++ map (Entry u) d) d)
+
+    pub entries-plain : isMemory e ≡ false → isRegister e ≡ false → entriesBefore N f u ++ Entry u 0 ∷ [] ≡ entriesBefore N f (u + 1)
     entries-plain m r =
-        let d : copies N (timing N) (zeroWord N) u ≡ 0 ∷ [] = copies-by q ∙ rw (r, m) in
-        sym (entries-next ∙ ap (λ (d : List ℕ). entriesBefore N u ++ map (Entry u) d) d)
+        let d : copies N f (zeroWord N) u ≡ 0 ∷ [] = copies-by q k ∙ rw (r, m) in
+        sym (entries-next ∙ ap (λ (d : List ℕ). entriesBefore N f u ++ map (Entry u) d) d)
 
-    pub entries-register : isRegister e ≡ true → entriesBefore N u ≡ entriesBefore N (u + 1)
+    pub entries-register : isRegister e ≡ true → entriesBefore N f u ≡ entriesBefore N f (u + 1)
     entries-register r =
-        let d : copies N (timing N) (zeroWord N) u ≡ [] = copies-by q ∙ rw r in
-        sym (entries-next ∙ ap (λ (d : List ℕ). entriesBefore N u ++ map (Entry u) d) d ∙ append-nil (entriesBefore N u))
+        let d : copies N f (zeroWord N) u ≡ [] = copies-by q k ∙ rw r in
+        sym (entries-next ∙ ap (λ (d : List ℕ). entriesBefore N f u ++ map (Entry u) d) d ∙ append-nil (entriesBefore N f u))
 
 -- ---- all nodes
 
-pub entries-all : (N : Net) → entriesBefore N (size N) ≡ entryPlaces N (timing N) (zeroWord N)
+pub entries-all : (N : Net) (f : Timing) → entriesBefore N f (size N) ≡ entryPlaces N f (zeroWord N)
 unfolding entriesBefore entryPlaces
-entries-all N = refl
+entries-all N f = refl
 
-pub longer-after : (N : Net) (u v : ℕ) → u ≤ v → length (entriesBefore N u) ≤ length (entriesBefore N v)
+pub longer-after : (N : Net) (f : Timing) (u v : ℕ) → u ≤ v → length (entriesBefore N f u) ≤ length (entriesBefore N f v)
 unfolding entriesBefore
-longer-after N u v h = concat-longer (entriesOf N (timing N) (zeroWord N)) u v h
+longer-after N f u v h = concat-longer (entriesOf N f (zeroWord N)) u v h
 
-module _ (N : Net) (firsts : List ℕ) {owners words : List ℕ} {u count : ℕ} (t : Placing owners words (entriesBefore N u) count) where
+module _ (N : Net) (f : Timing) (firsts : List ℕ) {owners words : List ℕ} {u count : ℕ} (t : Placing owners words (entriesBefore N f u) count) where
   -- there are too many before the last node is reached
-  pub placed-over : u ≤ size N → 1024 < count → AllPlaced N owners words firsts count
-  placed-over h o = record { exact = λ e. absurd (omega arith); over = λ e. omega (arith, t .over e, longer-after N u (size N) h, ap length (entries-all N)) }
+  pub placed-over : u ≤ size N → 1024 < count → AllPlaced N f owners words firsts count
+  placed-over h o = record { exact = λ e. absurd (omega arith); over = λ e. omega (arith, t .over e, longer-after N f u (size N) h, ap length (entries-all N f)) }
 
-  pub placed-all : u ≡ size N → (count ≤ 1024 → Firsts N firsts u) → AllPlaced N owners words firsts count
+  pub placed-all : u ≡ size N → (count ≤ 1024 → Firsts N f firsts u) → AllPlaced N f owners words firsts count
   placed-all h s = record {
-    exact = λ e. let x = t .exact e in let l : entriesBefore N u ≡ entryPlaces N (timing N) (zeroWord N) = ap (entriesBefore N) h ∙ entries-all N in (x .0 ∙ ap length l, subst (Stored owners words) l (x .1), subst (Firsts N firsts) h (s e));
-    over = λ e. omega (arith, t .over e, ap length (ap (entriesBefore N) h ∙ entries-all N));
+    exact = λ e. let x = t .exact e in let l : entriesBefore N f u ≡ entryPlaces N f (zeroWord N) = ap (entriesBefore N f) h ∙ entries-all N f in (x .0 ∙ ap length l, subst (Stored owners words) l (x .1), subst (Firsts N f firsts) h (s e));
+    over = λ e. omega (arith, t .over e, ap length (ap (entriesBefore N f) h ∙ entries-all N f));
   }
 
-  pub first-more : count ≤ 1024 → u < length firsts → Firsts N firsts u → Firsts N (set firsts u count) (u + 1)
+  pub first-more : count ≤ 1024 → u < length firsts → Firsts N f firsts u → Firsts N f (set firsts u count) (u + 1)
   first-more o k s v l =
       ⊎-elim (λ a. getD-set-other firsts u v count 0 (λ q. omega arith) ∙ s v a)
-      (λ a. ap (λ (i : ℕ). getD (set firsts u count) i 0) a ∙ getD-set-same firsts u count 0 k ∙ t .exact o .0 ∙ ap (λ (i : ℕ). length (entriesBefore N i)) (sym a)) (lt-suc-split (let z : v < suc u = omega arith in z))
+      (λ a. ap (λ (i : ℕ). getD (set firsts u count) i 0) a ∙ getD-set-same firsts u count 0 k ∙ t .exact o .0 ∙ ap (λ (i : ℕ). length (entriesBefore N f i)) (sym a)) (lt-suc-split (let z : v < suc u = omega arith in z))
 
-pub placing-none : (N : Net) (owners words : List ℕ) → Placing owners words (entriesBefore N 0) 0
+pub placing-none : (N : Net) (f : Timing) (owners words : List ℕ) → Placing owners words (entriesBefore N f 0) 0
 unfolding entriesBefore
-placing-none N owners words = record { exact = λ e. (refl, λ i k. absurd (not-suc-le-zero k)); over = λ e. absurd (omega arith) }
+placing-none N f owners words = record { exact = λ e. (refl, λ i k. absurd (not-suc-le-zero k)); over = λ e. absurd (omega arith) }
 
 -- ---- the wires that want a word of a ROM, one after the other
 
@@ -344,18 +360,63 @@ module _ {u first : ℕ} {ends copied owners₀ words₀ : List ℕ} where
   -- up to the next one, or to the last
   pub adds-to : {owners words : List ℕ} {k count wires r : ℕ} (m : ℕ) → AddsAll u first k count ends copied owners₀ words₀ owners words → From ends wires u k r → k ≤ m → m ≤ r → m ≤ wires
       → AddsAll u first m count ends copied owners₀ words₀ owners words
-  adds-to {owners} {words} {k} {count} m t f a b l =
+  adds-to {owners} {words} {k} {count} m t next a b l =
       subst (λ (j : ℕ). AddsAll u first j count ends copied owners₀ words₀ owners words) (let e : k + (m - k) ≡ m = omega arith in e)
-      (adds-past (m - k) t (λ j x y. f .none j x (omega arith) (omega arith)))
+      (adds-past (m - k) t (λ j x y. next .none j x (omega arith) (omega arith)))
 
 pub placing-count : {owners words : List ℕ} {l : List Place} {m n : ℕ} → m ≡ n → Placing owners words l n → Placing owners words l m
 placing-count {owners} {words} {l} e t = subst (Placing owners words l) (sym e) t
 
 -- the entries of a ROM are those that its wires want
-pub rom-placed : (N : Net) {u k count r : ℕ} {e : Element} {ends copied owners words owners′ words′ : List ℕ} → u < size N → e ≡ elementAt N u → isMemory e ≡ true → Wants N ends copied → k ≡ 3 * size N
-    → count ≤ 1024 → Placing owners words (entriesBefore N u) count → AddsAll u count k r ends copied owners words owners′ words′ → Placing owners′ words′ (entriesBefore N (u + 1)) r
-rom-placed N {u} {k} {ends = ends} {copied = copied} h q m w z o t a =
-    placing-as refl refl (entries-rom N u q m (w u h ∙ ap (wantedOf ends copied u) (sym z))) (a .adds (entriesBefore N u) (t .exact o .0) t)
+pub rom-placed : (N : Net) (f : Timing) {u k count r : ℕ} {e : Element} {ends copied owners words owners′ words′ : List ℕ} → u < size N → true ≡ f .keeps u → e ≡ elementAt N u → isMemory e ≡ true → Wants N f ends copied → k ≡ 3 * size N
+    → count ≤ 1024 → Placing owners words (entriesBefore N f u) count → AddsAll u count k r ends copied owners words owners′ words′ → Placing owners′ words′ (entriesBefore N f (u + 1)) r
+rom-placed N f {u} {k} {ends = ends} {copied = copied} h kept q m w z o t a =
+    placing-as refl refl (entries-rom N f u q kept m (w u h ∙ ap (wantedOf ends copied u) (sym z))) (a .adds (entriesBefore N f u) (t .exact o .0) t)
 
-pub firsts-as : (N : Net) {firsts firsts′ : List ℕ} {u : ℕ} → firsts′ ≡ firsts → Firsts N firsts u → Firsts N firsts′ u
-firsts-as N {u = u} e t = subst (λ (l : List ℕ). Firsts N l u) (sym e) t
+pub firsts-as : (N : Net) (f : Timing) {firsts firsts′ : List ℕ} {u : ℕ} → firsts′ ≡ firsts → Firsts N f firsts u → Firsts N f firsts′ u
+firsts-as N f {u = u} e t = subst (λ (l : List ℕ). Firsts N f l u) (sym e) t
+
+-- ---- node by node
+
+-- what place_entries has done when it comes to node u
+pub record PlacedTo (N : Net) (f : Timing) (plan₀ plan : List ℕ) (count u : ℕ) : Type 0 where
+  pub long : length plan ≡ length plan₀
+  pub few : count ≤ 4096
+  pub placing : Placing (ownersIn plan) (wordsIn plan) (entriesBefore N f u) count
+  pub firsts : count ≤ 1024 → Firsts N f (firstsIn plan) u
+  pub late : lateIn plan ≡ lateIn plan₀
+
+pub placed-as : {N : Net} {f : Timing} {plan₀ plan plan′ : List ℕ} {count count′ u : ℕ} → plan′ ≡ plan → count′ ≡ count → PlacedTo N f plan₀ plan count u → PlacedTo N f plan₀ plan′ count′ u
+placed-as {N} {f} {plan₀} {plan} {plan′} {count} {count′} {u} p q t = subst (λ (y : List ℕ). PlacedTo N f plan₀ y count′ u) (sym p) (subst (λ (k : ℕ). PlacedTo N f plan₀ plan k u) (sym q) t)
+
+-- where its entries begin is put
+module _ {N : Net} {f : Timing} {plan₀ plan put : List ℕ} {count u : ℕ} (t : PlacedTo N f plan₀ plan count u) (o : count ≤ 1024) (h : u < 1024) (long : length plan₀ ≡ 7168) (same : length put ≡ length plan)
+    (e : put ≡ set plan (3072 + u) count) where
+  pub placing-put : Placing (ownersIn put) (wordsIn put) (entriesBefore N f u) count
+  placing-put = let p = first-put plan put u count h e in placing-as (p .0) (p .1) refl (t .placing)
+
+  firsts-put : Firsts N f (firstsIn put) (u + 1)
+  firsts-put =
+      firsts-as N f (first-put plan put u count h e .3)
+      (first-more N f (firstsIn plan) (t .placing) o (omega (arith, section-length 3072 1024 plan (omega (arith, t .long)))) (t .firsts o))
+
+  -- it is left out
+  pub placed-left : false ≡ f .keeps u → PlacedTo N f plan₀ put count (u + 1)
+  placed-left k = record {
+    long = same ∙ t .long;
+    few = omega arith;
+    placing = placing-as refl refl (entries-left N f u k) placing-put;
+    firsts = λ g. firsts-put;
+    late = first-put plan put u count h e .2 ∙ t .late;
+  }
+
+  -- or its entries are placed
+  pub placed-next : {more : List ℕ} {r : ℕ} → length more ≡ length put → r ≤ 4096 → Placing (ownersIn more) (wordsIn more) (entriesBefore N f (u + 1)) r → lateIn more ≡ lateIn put → firstsIn more ≡ firstsIn put
+      → PlacedTo N f plan₀ more r (u + 1)
+  placed-next l b p q s = record {
+    long = l ∙ same ∙ t .long;
+    few = b;
+    placing = p;
+    firsts = λ g. firsts-as N f s firsts-put;
+    late = q ∙ first-put plan put u count h e .2 ∙ t .late;
+  }

@@ -17,7 +17,7 @@ use Rattle.netlist.specs.declared.Element.the-variants.{Input, Output, Register
 use Rattle.netlist.specs.Net.{Net, size, elementAt, operands, isRegister}
 use Rattle.netlist.specs.NodeLaws.{few-operands}
 use Rattle.behaviour.specs.Run.{zeroWord}
-use Rattle.retiming.specs.Rewrite.{Place, Entry, Reg, copies, entriesOf, wiresOf, wiresAll, wirePlaces, regsOn, entryPlaces, regPlaces, places, numberOf, timing}
+use Rattle.retiming.specs.Rewrite.{Timing, Place, Entry, Reg, copies, entriesOf, wiresOf, wiresAll, wirePlaces, regsOn, entryPlaces, regPlaces, places, numberOf}
 use Rattle.retiming.specs.Layout.{noPlace, Stands, Sound, places-sound}
 use Rattle.retiming.specs.Numbers.{number-of-place}
 use Rattle.lists.specs.Threes.{concat-next, concat-after, row-of-three, in-threes}
@@ -28,68 +28,68 @@ use Rattle.plan.specs.Registers.{entryCount, entryAt, wireOf, wiresBefor
 
 -- ---- all registers are those of the entries' wires
 
-module _ (N : Net) where
+module _ (N : Net) (f : Timing) where
   -- of an entry, and nothing of a register
   abbrev wiresAt : Place → List Place
-  wiresAt (Entry x c) = wiresOf N (timing N) (zeroWord N) (regsOn N (timing N) (zeroWord N)) x c
+  wiresAt (Entry x c) = wiresOf N f (zeroWord N) (regsOn N f (zeroWord N)) x c
   wiresAt (Reg x c p j) = []
 
-  of-copies : (x : ℕ) (d : List ℕ) → concatMap (wiresOf N (timing N) (zeroWord N) (regsOn N (timing N) (zeroWord N)) x) d ≡ concatMap wiresAt (map (Entry x) d)
+  of-copies : (x : ℕ) (d : List ℕ) → concatMap (wiresOf N f (zeroWord N) (regsOn N f (zeroWord N)) x) d ≡ concatMap wiresAt (map (Entry x) d)
   of-copies x [] = refl
   of-copies x (c ∷ d) = ap (λ (l : List Place). wiresAt (Entry x c) ++ l) (of-copies x d)
 
-  regs-by-entry : regPlaces N (timing N) (zeroWord N) ≡ concatMap wiresAt (entryPlaces N (timing N) (zeroWord N))
+  regs-by-entry : regPlaces N f (zeroWord N) ≡ concatMap wiresAt (entryPlaces N f (zeroWord N))
   unfolding regPlaces wirePlaces wiresAll entryPlaces entriesOf
   regs-by-entry =
-      concatMap-cong (wiresAll N (timing N) (zeroWord N) (regsOn N (timing N) (zeroWord N))) (λ x. concatMap wiresAt (map (Entry x) (copies N (timing N) (zeroWord N) x))) 0 (size N) (λ x h. of-copies x (copies N (timing N) (zeroWord N) x))
-      ∙ sym (concatMap-concatMap wiresAt (entriesOf N (timing N) (zeroWord N)) (below (size N)))
+      concatMap-cong (wiresAll N f (zeroWord N) (regsOn N f (zeroWord N))) (λ x. concatMap wiresAt (map (Entry x) (copies N f (zeroWord N) x))) 0 (size N) (λ x h. of-copies x (copies N f (zeroWord N) x))
+      ∙ sym (concatMap-concatMap wiresAt (entriesOf N f (zeroWord N)) (below (size N)))
 
   -- a place's three wires
-  three-wires : (pl : Place) → wiresAt pl ≡ wireOf N pl 0 ++ wireOf N pl 1 ++ wireOf N pl 2
+  three-wires : (pl : Place) → wiresAt pl ≡ wireOf N f pl 0 ++ wireOf N f pl 1 ++ wireOf N f pl 2
   unfolding wiresOf
-  three-wires (Entry x c) = row-of-three (operands (elementAt N x)) (regsOn N (timing N) (zeroWord N) x c) (few-operands (elementAt N x))
+  three-wires (Entry x c) = row-of-three (operands (elementAt N x)) (regsOn N f (zeroWord N) x c) (few-operands (elementAt N x))
   three-wires (Reg x c p j) = refl
 
-  row-at : (i p : ℕ) → p < 3 → wireOf N (entryAt N i) p ≡ wireOf N (entryAt N ((3 * i + p) / 3)) ((3 * i + p) % 3)
+  row-at : (i p : ℕ) → p < 3 → wireOf N f (entryAt N f i) p ≡ wireOf N f (entryAt N f ((3 * i + p) / 3)) ((3 * i + p) % 3)
   row-at i p h =
       let a : i ≡ (3 * i + p) / 3 = omega arith in
       let b : p ≡ (3 * i + p) % 3 = omega arith in
-      ap₂ (λ (k q : ℕ). wireOf N (entryAt N k) q) a b
+      ap₂ (λ (k q : ℕ). wireOf N f (entryAt N f k) q) a b
 
-  pub regs-in-row : regPlaces N (timing N) (zeroWord N) ≡ wiresBefore N (3 * entryCount N)
+  pub regs-in-row : regPlaces N f (zeroWord N) ≡ wiresBefore N f (3 * entryCount N f)
   unfolding wiresBefore
   regs-in-row =
       regs-by-entry
-      ∙ sym (concatMap-below-getD (λ i. wiresAt (entryAt N i)) wiresAt (entryPlaces N (timing N) (zeroWord N)) noPlace 0 (λ v h. ap (λ (i : ℕ). wiresAt (entryAt N i)) (zero-add v)))
-      ∙ in-threes (λ i. wiresAt (entryAt N i)) (λ j. wireOf N (entryAt N (j / 3)) (j % 3)) (entryCount N) (λ i h.
+      ∙ sym (concatMap-below-getD (λ i. wiresAt (entryAt N f i)) wiresAt (entryPlaces N f (zeroWord N)) noPlace 0 (λ v h. ap (λ (i : ℕ). wiresAt (entryAt N f i)) (zero-add v)))
+      ∙ in-threes (λ i. wiresAt (entryAt N f i)) (λ j. wireOf N f (entryAt N f (j / 3)) (j % 3)) (entryCount N f) (λ i h.
       let z : 3 * i + 0 ≡ 3 * i = omega arith in
-      three-wires (entryAt N i) ∙ ap₂ _++_ (ap₂ _++_ (row-at i 0 (omega arith) ∙ ap (λ (k : ℕ). wireOf N (entryAt N (k / 3)) (k % 3)) z) (row-at i 1 (omega arith))) (row-at i 2 (omega arith)))
+      three-wires (entryAt N f i) ∙ ap₂ _++_ (ap₂ _++_ (row-at i 0 (omega arith) ∙ ap (λ (k : ℕ). wireOf N f (entryAt N f (k / 3)) (k % 3)) z) (row-at i 1 (omega arith))) (row-at i 2 (omega arith)))
 
-  pub wires-next : (m : ℕ) → wiresBefore N (m + 1) ≡ wiresBefore N m ++ wireOf N (entryAt N (m / 3)) (m % 3)
+  pub wires-next : (m : ℕ) → wiresBefore N f (m + 1) ≡ wiresBefore N f m ++ wireOf N f (entryAt N f (m / 3)) (m % 3)
   unfolding wiresBefore
-  wires-next m = concat-next (λ j. wireOf N (entryAt N (j / 3)) (j % 3)) m
+  wires-next m = concat-next (λ j. wireOf N f (entryAt N f (j / 3)) (j % 3)) m
 
   -- the first wires' registers come first
-  wires-after : (m k : ℕ) → wiresBefore N (m + k) ≡ wiresBefore N m ++ concatMap (λ j. wireOf N (entryAt N (j / 3)) (j % 3)) (upFrom (0 + m) k)
+  wires-after : (m k : ℕ) → wiresBefore N f (m + k) ≡ wiresBefore N f m ++ concatMap (λ j. wireOf N f (entryAt N f (j / 3)) (j % 3)) (upFrom (0 + m) k)
   unfolding wiresBefore
-  wires-after m k = concat-after (λ j. wireOf N (entryAt N (j / 3)) (j % 3)) m k
+  wires-after m k = concat-after (λ j. wireOf N f (entryAt N f (j / 3)) (j % 3)) m k
 
-  wires-first : (m b i : ℕ) → m ≤ b → i < length (wiresBefore N m) → (i < length (wiresBefore N b)) × (getD (wiresBefore N b) i noPlace ≡ getD (wiresBefore N m) i noPlace)
+  wires-first : (m b i : ℕ) → m ≤ b → i < length (wiresBefore N f m) → (i < length (wiresBefore N f b)) × (getD (wiresBefore N f b) i noPlace ≡ getD (wiresBefore N f m) i noPlace)
   wires-first m b i h k =
       let e : m + (b - m) ≡ b = omega arith in
-      let rest : List Place = concatMap (λ j. wireOf N (entryAt N (j / 3)) (j % 3)) (upFrom (0 + m) (b - m)) in
-      let q : wiresBefore N b ≡ wiresBefore N m ++ rest = ap (wiresBefore N) (sym e) ∙ wires-after m (b - m) in
-      (omega (arith, ap length q, length-append (wiresBefore N m) rest), ap (λ (l : List Place). getD l i noPlace) q ∙ List·getD-append (wiresBefore N m) rest noPlace i k)
+      let rest : List Place = concatMap (λ j. wireOf N f (entryAt N f (j / 3)) (j % 3)) (upFrom (0 + m) (b - m)) in
+      let q : wiresBefore N f b ≡ wiresBefore N f m ++ rest = ap (wiresBefore N f) (sym e) ∙ wires-after m (b - m) in
+      (omega (arith, ap length q, length-append (wiresBefore N f m) rest), ap (λ (l : List Place). getD l i noPlace) q ∙ List·getD-append (wiresBefore N f m) rest noPlace i k)
 
   -- so a register of the first wires has the number of its place
-  pub reg-number : (m i : ℕ) → m ≤ 3 * entryCount N → i < length (wiresBefore N m) → numberOf N (timing N) (zeroWord N) (getD (wiresBefore N m) i noPlace) ≡ entryCount N + i
+  pub reg-number : (m i : ℕ) → m ≤ 3 * entryCount N f → i < length (wiresBefore N f m) → numberOf N f (zeroWord N) (getD (wiresBefore N f m) i noPlace) ≡ entryCount N f + i
   unfolding places
   reg-number m i h k =
-      let w = wires-first m (3 * entryCount N) i h k in
-      let e : getD (regPlaces N (timing N) (zeroWord N)) i noPlace ≡ getD (wiresBefore N m) i noPlace = ap (λ (l : List Place). getD l i noPlace) regs-in-row ∙ w .1 in
-      let l : entryCount N + i < length (places N (timing N) (zeroWord N)) = omega (arith, length-append (entryPlaces N (timing N) (zeroWord N)) (regPlaces N (timing N) (zeroWord N)), ap length regs-in-row, w .0) in
-      ap (numberOf N (timing N) (zeroWord N)) (sym (getD-append-add (entryPlaces N (timing N) (zeroWord N)) (regPlaces N (timing N) (zeroWord N)) i noPlace ∙ e))
-      ∙ number-of-place N (timing N) (zeroWord N) (entryCount N + i) l
+      let w = wires-first m (3 * entryCount N f) i h k in
+      let e : getD (regPlaces N f (zeroWord N)) i noPlace ≡ getD (wiresBefore N f m) i noPlace = ap (λ (l : List Place). getD l i noPlace) regs-in-row ∙ w .1 in
+      let l : entryCount N f + i < length (places N f (zeroWord N)) = omega (arith, length-append (entryPlaces N f (zeroWord N)) (regPlaces N f (zeroWord N)), ap length regs-in-row, w .0) in
+      ap (numberOf N f (zeroWord N)) (sym (getD-append-add (entryPlaces N f (zeroWord N)) (regPlaces N f (zeroWord N)) i noPlace ∙ e))
+      ∙ number-of-place N f (zeroWord N) (entryCount N f + i) l
 
 -- ---- an entry is found by its word
 
@@ -102,51 +102,51 @@ wordOf : Place → ℕ
 wordOf (Entry u c) = c
 wordOf (Reg x c p j) = 0
 
-module _ (N : Net) (owners words : List ℕ) (held : Stored owners words (entryPlaces N (timing N) (zeroWord N))) (u : ℕ) (inside : u < size N) where
-  begins : offset (entriesOf N (timing N) (zeroWord N)) (below (size N)) u ≡ length (entriesBefore N u)
+module _ (N : Net) (f : Timing) (owners words : List ℕ) (held : Stored owners words (entryPlaces N f (zeroWord N))) (u : ℕ) (inside : u < size N) where
+  begins : offset (entriesOf N f (zeroWord N)) (below (size N)) u ≡ length (entriesBefore N f u)
   unfolding entriesBefore
-  begins = ap (λ (l : List ℕ). length (concatMap (entriesOf N (timing N) (zeroWord N)) l)) (take-upFrom 0 (size N) u (omega arith))
+  begins = ap (λ (l : List ℕ). length (concatMap (entriesOf N f (zeroWord N)) l)) (take-upFrom 0 (size N) u (omega arith))
 
-  module _ (j : ℕ) (l : j < length (copies N (timing N) (zeroWord N) u)) where
-    in-entries : j < length (entriesOf N (timing N) (zeroWord N) u)
+  module _ (j : ℕ) (l : j < length (copies N f (zeroWord N) u)) where
+    in-entries : j < length (entriesOf N f (zeroWord N) u)
     unfolding entriesOf
-    in-entries = rw (length-map (copies N (timing N) (zeroWord N) u) (Entry u)) l
+    in-entries = rw (length-map (copies N f (zeroWord N) u) (Entry u)) l
 
-    copy-inside : length (entriesBefore N u) + j < entryCount N
+    copy-inside : length (entriesBefore N f u) + j < entryCount N f
     unfolding entryPlaces
-    copy-inside = omega (arith, begins, offset-below-lt (entriesOf N (timing N) (zeroWord N)) (size N) u j inside in-entries)
+    copy-inside = omega (arith, begins, offset-below-lt (entriesOf N f (zeroWord N)) (size N) u j inside in-entries)
 
-    copy-word : getD words (length (entriesBefore N u) + j) 0 ≡ getD (copies N (timing N) (zeroWord N) u) j 0
+    copy-word : getD words (length (entriesBefore N f u) + j) 0 ≡ getD (copies N f (zeroWord N) u) j 0
     unfolding entryPlaces entriesOf wordOf
     copy-word =
-        sym (ap wordOf (held (length (entriesBefore N u) + j) copy-inside))
-        ∙ ap (λ (k : ℕ). wordOf (getD (entryPlaces N (timing N) (zeroWord N)) (k + j) noPlace)) (sym begins)
-        ∙ ap wordOf (getD-concatBelow (entriesOf N (timing N) (zeroWord N)) (size N) u j inside in-entries noPlace ∙ getD-map-lt (Entry u) (copies N (timing N) (zeroWord N) u) j 0 noPlace l)
+        sym (ap wordOf (held (length (entriesBefore N f u) + j) copy-inside))
+        ∙ ap (λ (k : ℕ). wordOf (getD (entryPlaces N f (zeroWord N)) (k + j) noPlace)) (sym begins)
+        ∙ ap wordOf (getD-concatBelow (entriesOf N f (zeroWord N)) (size N) u j inside in-entries noPlace ∙ getD-map-lt (Entry u) (copies N f (zeroWord N) u) j 0 noPlace l)
 
-  pub entry-number : {c first r : ℕ} → first ≡ length (entriesBefore N u) → has c (copies N (timing N) (zeroWord N) u) ≡ true → Finds words c first (entryCount N) r → r ≡ numberOf N (timing N) (zeroWord N) (Entry u c)
+  pub entry-number : {c first r : ℕ} → first ≡ length (entriesBefore N f u) → has c (copies N f (zeroWord N) u) ≡ true → Finds words c first (entryCount N f) r → r ≡ numberOf N f (zeroWord N) (Entry u c)
   unfolding numberOf
-  entry-number {c} {first} {r} e h f =
-      let q : ℕ = find c (copies N (timing N) (zeroWord N) u) in
-      let lq : q < length (copies N (timing N) (zeroWord N) u) = find-lt c (copies N (timing N) (zeroWord N) u) h in
-      let wq : getD words (length (entriesBefore N u) + q) 0 ≡ c = copy-word q lq ∙ getD-find c (copies N (timing N) (zeroWord N) u) 0 h in
-      let up : r ≤ first + q = ⊎-elim (λ z. absurd (f .passed (length (entriesBefore N u) + q) (omega arith) (omega arith) wq)) (λ z. z) (lt-or-le (first + q) r) in
+  entry-number {c} {first} {r} e h seek =
+      let q : ℕ = find c (copies N f (zeroWord N) u) in
+      let lq : q < length (copies N f (zeroWord N) u) = find-lt c (copies N f (zeroWord N) u) h in
+      let wq : getD words (length (entriesBefore N f u) + q) 0 ≡ c = copy-word q lq ∙ getD-find c (copies N f (zeroWord N) u) 0 h in
+      let up : r ≤ first + q = ⊎-elim (λ z. absurd (seek .passed (length (entriesBefore N f u) + q) (omega arith) (omega arith) wq)) (λ z. z) (lt-or-le (first + q) r) in
       let j : ℕ = r - first in
-      let at : length (entriesBefore N u) + j ≡ r = omega (arith, f .after) in
-      let lj : j < length (copies N (timing N) (zeroWord N) u) = omega (arith, f .after) in
-      let wj : getD (copies N (timing N) (zeroWord N) u) j 0 ≡ c = sym (copy-word j lj) ∙ ap (λ (k : ℕ). getD words k 0) at ∙ f .found (omega (arith, copy-inside q lq)) in
-      omega (arith, begins, f .after, find-le c (copies N (timing N) (zeroWord N) u) j lj wj)
+      let at : length (entriesBefore N f u) + j ≡ r = omega (arith, seek .after) in
+      let lj : j < length (copies N f (zeroWord N) u) = omega (arith, seek .after) in
+      let wj : getD (copies N f (zeroWord N) u) j 0 ≡ c = sym (copy-word j lj) ∙ ap (λ (k : ℕ). getD words k 0) at ∙ seek .found (omega (arith, copy-inside q lq)) in
+      omega (arith, begins, seek .after, find-le c (copies N f (zeroWord N) u) j lj wj)
 
-pub entries-few : (N : Net) (u : ℕ) → u ≤ size N → length (entriesBefore N u) ≤ entryCount N
-entries-few N u h = omega (arith, longer-after N u (size N) h, ap length (entries-all N))
+pub entries-few : (N : Net) (f : Timing) (u : ℕ) → u ≤ size N → length (entriesBefore N f u) ≤ entryCount N f
+entries-few N f u h = omega (arith, longer-after N f u (size N) h, ap length (entries-all N f))
 
 -- ---- an entry's reader
 
-module _ (N : Net) (owners words : List ℕ) (held : Stored owners words (entryPlaces N (timing N) (zeroWord N))) (i : ℕ) (h : i < entryCount N) where
-  pub reader-stands : Stands N (timing N) (zeroWord N) (getD owners i 0) (getD words i 0)
+module _ (N : Net) (f : Timing) (owners words : List ℕ) (held : Stored owners words (entryPlaces N f (zeroWord N))) (i : ℕ) (h : i < entryCount N f) where
+  pub reader-stands : Stands N f (zeroWord N) (getD owners i 0) (getD words i 0)
   unfolding places
   reader-stands =
-      let e : getD (places N (timing N) (zeroWord N)) i noPlace ≡ Entry (getD owners i 0) (getD words i 0) = List·getD-append (entryPlaces N (timing N) (zeroWord N)) (regPlaces N (timing N) (zeroWord N)) noPlace i h ∙ held i h in
-      subst (Sound N (timing N) (zeroWord N)) e (places-sound N (timing N) (zeroWord N) i (omega (arith, length-append (entryPlaces N (timing N) (zeroWord N)) (regPlaces N (timing N) (zeroWord N)))))
+      let e : getD (places N f (zeroWord N)) i noPlace ≡ Entry (getD owners i 0) (getD words i 0) = List·getD-append (entryPlaces N f (zeroWord N)) (regPlaces N f (zeroWord N)) noPlace i h ∙ held i h in
+      subst (Sound N f (zeroWord N)) e (places-sound N f (zeroWord N) i (omega (arith, length-append (entryPlaces N f (zeroWord N)) (regPlaces N f (zeroWord N)))))
 
 pub wires-all : (e : Element) → isRegister e ≡ false → wiresTo e ≡ operands e
 wires-all Input h = refl

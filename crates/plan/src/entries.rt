@@ -6,15 +6,19 @@ use areas::write_at;
 use circuit::node_count;
 use circuit::register;
 use circuit::wide;
+use retiming::Mode;
 use wiring::CLOCKS;
 use wiring::HEADS;
 use wiring::memory_bit;
+use wiring::stays;
 ghost use mathlib.Core.Path.{_≡_};
+ghost use mathlib.Core.Bool.{true};
 ghost use Prim.Native.Nat.{_+_, _<_, _≤_};
 ghost use lib.ListN.{length, set};
 ghost use Rattle.netlist.specs.Net.{Net, size};
 ghost use Rattle.circuit.specs.Opened.{opened};
-ghost use Rattle.wiring.specs.Wiring.{endsIn, clocksIn, headsIn};
+ghost use Rattle.retiming.specs.Modes.{modeTiming};
+ghost use Rattle.wiring.specs.Wiring.{Timed, endsIn, clocksIn, headsIn};
 ghost use Rattle.wiring.specs.Links.{Chained, RomsLinked};
 ghost use Rattle.plan.specs.Areas.{ownersIn, wordsIn, lateIn, firstsIn};
 ghost use Rattle.plan.specs.Entries.{Finds, Placing, Adds, Wants, AddsAll, entriesBefore, AllPlaced};
@@ -89,10 +93,11 @@ fn add_copies(
     next
 }
 
-// Adds the entries of node u.
+// Adds the entries of node u, which stays.
 fn place(
     file: &[u8],
     net: &[u16],
+    mode: Mode,
     wires: &[u16],
     copied: &[u16],
     u: usize,
@@ -100,10 +105,10 @@ fn place(
     plan: &mut [u16],
 ) -> usize
     ghost { Net }
-    requires { λ N. opened 𝓤 (now file) (now net) N ((u < size N) × (count ≤ 1024) × (length (now wires) ≡ 10240) × (length (now copied) ≡ 3072) × (length (now plan) ≡ 7168)
-        × Wants N (endsIn (now wires)) (now copied) × RomsLinked N (endsIn (now wires)) (headsIn (now wires)) (clocksIn (now wires))
-        × Placing (ownersIn (now plan)) (wordsIn (now plan)) (entriesBefore N u) count) }
-    ensures { λ N r. ⌜ Placing (ownersIn (now (plan .exit))) (wordsIn (now (plan .exit))) (entriesBefore N (u + 1)) r × (r ≤ 4096)
+    requires { λ N. opened 𝓤 (now file) (now net) N ((u < size N) × (modeTiming mode N .keeps u ≡ true) × (count ≤ 1024) × (length (now wires) ≡ 10240) × (length (now copied) ≡ 3072) × (length (now plan) ≡ 7168)
+        × Wants N (modeTiming mode N) (endsIn (now wires)) (now copied) × RomsLinked N (endsIn (now wires)) (headsIn (now wires)) (clocksIn (now wires))
+        × Placing (ownersIn (now plan)) (wordsIn (now plan)) (entriesBefore N (modeTiming mode N) u) count) }
+    ensures { λ N r. ⌜ Placing (ownersIn (now (plan .exit))) (wordsIn (now (plan .exit))) (entriesBefore N (modeTiming mode N) (u + 1)) r × (r ≤ 4096)
         × (lateIn (now (plan .exit)) ≡ lateIn (now (plan .entry))) × (firstsIn (now (plan .exit)) ≡ firstsIn (now (plan .entry))) ⌝ }
 {
     if memory_bit(file, net, u) == 1 {
@@ -121,14 +126,16 @@ fn place(
 pub fn place_entries(
     file: &[u8],
     net: &[u16],
+    mode: Mode,
+    timing: &[u16],
     wires: &[u16],
     copied: &[u16],
     plan: &mut [u16],
 ) -> usize
     ghost { Net }
-    requires { λ N. opened 𝓤 (now file) (now net) N ((length (now wires) ≡ 10240) × (length (now copied) ≡ 3072) × (length (now plan) ≡ 7168)
-        × Wants N (endsIn (now wires)) (now copied) × RomsLinked N (endsIn (now wires)) (headsIn (now wires)) (clocksIn (now wires))) }
-    ensures { λ N r. ⌜ AllPlaced N (ownersIn (now (plan .exit))) (wordsIn (now (plan .exit))) (firstsIn (now (plan .exit))) r
+    requires { λ N. opened 𝓤 (now file) (now net) N (Timed N (modeTiming mode N) (now timing) × (length (now timing) ≡ 3072) × (length (now wires) ≡ 10240) × (length (now copied) ≡ 3072) × (length (now plan) ≡ 7168)
+        × Wants N (modeTiming mode N) (endsIn (now wires)) (now copied) × RomsLinked N (endsIn (now wires)) (headsIn (now wires)) (clocksIn (now wires))) }
+    ensures { λ N r. ⌜ AllPlaced N (modeTiming mode N) (ownersIn (now (plan .exit))) (wordsIn (now (plan .exit))) (firstsIn (now (plan .exit))) r
         × (lateIn (now (plan .exit)) ≡ lateIn (now (plan .entry))) ⌝ }
 {
     let n = node_count(file, net);
@@ -139,7 +146,9 @@ pub fn place_entries(
             return count;
         }
         write_at(plan, FIRSTS + u, count as u16);
-        count = place(file, net, wires, copied, u, count, plan);
+        if stays(file, net, mode, timing, u) {
+            count = place(file, net, mode, wires, copied, u, count, plan);
+        }
         u = u + 1;
     }
     count

@@ -55,11 +55,10 @@ pub fn origin_of(file: &[u8], net: &[u16], mode: Mode) -> usize
 }
 
 // The clock at which a word is asked for, where n is counted from the origin.
-pub fn clock_from(file: &[u8], net: &[u16], mode: Mode, n: usize) -> u16
-    requires { ⌜ Circuit (now file) (now net) × (n < 65534) ⌝ }
-    ensures { λ r. ⌜ r ≡ askedClock (modeTiming mode (netOf (now (file .entry)) (now (net .entry))) .origin) n ⌝ }
+pub fn asked_clock(n: usize, origin: usize) -> u16
+    requires { ⌜ n < 65534 ⌝ }
+    ensures { λ r. ⌜ r ≡ askedClock origin n ⌝ }
 {
-    let origin = origin_of(file, net, mode);
     if n < origin {
         return NEVER;
     }
@@ -124,7 +123,7 @@ fn rom_clock(file: &[u8], net: &[u16], mode: Mode, u: usize, n: usize) -> u16
         (askedClock (modeTiming mode (netOf (now (file .entry)) (now (net .entry))) .origin) n) 65535 ⌝ }
 {
     if memory_bit(file, net, u) == 1 {
-        clock_from(file, net, mode, n)
+        asked_clock(n, origin_of(file, net, mode))
     } else {
         65535
     }

@@ -18,7 +18,7 @@ add-read-at : tie.Need-add-read-at
 add-read-at c = omega (arith, c .before .before .before .before .before .before .before .pre .1 .0, c .before .before .before .before .before .before .before .pre .0 .few)
 
 read-at-requires : tie.Need-read-at-requires
-read-at-requires c κs = let s = c .before .before .before .before .before .before .before .pre in omega (arith, s .1 .0, s .1 .2, s .0 .few)
+read-at-requires c κs = let s = c .before .before .before .before .before .before .before .pre in omega (arith, s .1 .0, s .1 .3, s .0 .few)
 
 wide-requires : tie.Need-wide-requires
 wide-requires c κs = tt
@@ -41,7 +41,7 @@ add-copies-requires c κs =
     let m = bit-true (isMemory (elementAt N (a .u))) (sym (c .before .before .before .before .before .memory-bit .ensures .0) ∙ c .before .before .before .before .if1 .taken) in
     let e : 3 * size N ≡ 3 * c .before .node-count .result = omega (arith, c .before .node-count .ensures .0) in
     let r = section-read 9216 1024 (a .wires .now) (a .u) (omega (arith, t .0, s .pre .0 .few)) in
-    (t .1, omega (arith, c .before .node-count .ensures .1), t .2, t .3, t .4, chained-as e (c .before .before .wide .ensures .0 ∙ c .before .before .before .read-at .ensures ∙ sym r) (t .6 (a .u) (t .0) m))
+    (t .2, omega (arith, c .before .node-count .ensures .1), t .3, t .4, t .5, chained-as e (c .before .before .wide .ensures .0 ∙ c .before .before .before .read-at .ensures ∙ sym r) (t .7 (a .u) (t .0) m))
 
 same-length : tie.Need-same-length
 same-length c = c .before .before .add-copies .kept .1 .1 .1 .1 .1 .1 .0
@@ -56,7 +56,7 @@ returns c =
     let n = c .before .before .before .before .node-count in
     let e : 3 * n .result ≡ 3 * size N = omega (arith, n .ensures .0) in
     let r = c .before .before .add-copies .ensures in
-    (rom-placed N (t .0) refl m (t .5) e (t .1) (t .7) (r .0), omega (arith, r .0 .little, t .1, n .ensures .1), r .1, r .2)
+    (rom-placed N _ (t .0) (sym (t .1)) refl m (t .6) e (t .2) (t .8) (r .0), omega (arith, r .0 .little, t .2, n .ensures .1), r .1, r .2)
 
 register-requires : tie.Need-register-requires
 register-requires c κs = (c .before .before .before .before .before .before .before .pre .0, c .before .before .before .before .before .before .before .pre .1 .0)
@@ -67,13 +67,13 @@ returns-2 c =
     let a = s .args in
     let N = netOf (a .file .now) (a .net .now) in
     let t = s .pre .1 in
-    (placing-as refl refl (entries-register N (a .u) refl (bit-true (isRegister (elementAt N (a .u))) (sym (c .before .register .ensures .0) ∙ c .if2 .taken))) (t .7), omega (arith, t .1), refl, refl)
+    (placing-as refl refl (entries-register N _ (a .u) refl (sym (t .1)) (bit-true (isRegister (elementAt N (a .u))) (sym (c .before .register .ensures .0) ∙ c .if2 .taken))) (t .8), omega (arith, t .2), refl, refl)
 
 cast-add-entry : tie.Need-cast-add-entry
 cast-add-entry c = omega (arith, c .before .before .before .before .before .before .before .before .before .pre .1 .0, c .before .before .before .before .before .before .before .before .before .pre .0 .few)
 
 add-entry-requires : tie.Need-add-entry-requires
-add-entry-requires c κs = (omega (arith, c .before .before .before .before .before .before .before .before .before .before .pre .1 .1), c .before .before .before .before .before .before .before .before .before .before .pre .1 .4)
+add-entry-requires c κs = (omega (arith, c .before .before .before .before .before .before .before .before .before .before .pre .1 .2), c .before .before .before .before .before .before .before .before .before .before .pre .1 .5)
 
 same-length-2 : tie.Need-same-length-2
 same-length-2 c = c .before .before .add-entry .kept .1 .1 .1 .0
@@ -88,7 +88,7 @@ returns-3 c =
     let r = bit-false (isRegister (elementAt N (a .u))) (λ e. c .before .before .before .before .if2 .left (c .before .before .before .before .before .register .ensures .0 ∙ e)) in
     let e = c .before .before .add-entry .ensures in
     let p = a .plan .now in
-    (placing-count (e .0) (placing-as (e .1) (e .2) (entries-plain N (a .u) refl m r) (placing-more (t .7) (owners-room p (t .4)) (words-room p (t .4)) (a .u) 0)), omega (arith, t .1, e .0), e .3, e .4)
+    (placing-count (e .0) (placing-as (e .1) (e .2) (entries-plain N _ (a .u) refl (sym (t .1)) m r) (placing-more (t .8) (owners-room p (t .5)) (words-room p (t .5)) (a .u) 0)), omega (arith, t .2, e .0), e .3, e .4)
 
 pub place-spec : {M : Type 1} → statement M
 place-spec =

@@ -5,6 +5,7 @@ use native.Mathlib.Omega.{arith}
 use lib.ListN.{length}
 use Rattle.netlist.specs.Net.{elementAt, operands}
 use Rattle.circuit.specs.Circuit.{netOf}
+use Rattle.retiming.specs.Modes.{modeTiming}
 use Rattle.plan.specs.Areas.{ownersIn, wordsIn, lateIn, firstsIn, sourcesIn}
 use Rattle.plan.specs.Registers.{entryCount, Laid}
 use Rattle.plan.specs.RegistersLaws.{laid-at, owner-is, owner-same, owner-inside, laid-rest, planning-as, laid-over, laid-stop}
@@ -13,11 +14,11 @@ use Rattle.plan.proofs.registers.lay_entry.Statement.{statement}
 use Rattle.plan.proofs.registers.lay_entry.Tie as tie
 
 abbrev Inv-loop : tie.InvT-loop
-Inv-loop file net timing wires copied e plan₀ entries total₀ x n p₀ plan total p =
-    (p ≤ n) × (length plan ≡ length plan₀) × (firstsIn plan ≡ firstsIn plan₀) × Laid (netOf file net) (ownersIn plan) (wordsIn plan) (lateIn plan) (sourcesIn plan) (3 * e + p) total
+Inv-loop file net timing wires copied e plan₀ mode entries total₀ x n p₀ plan total p =
+    (p ≤ n) × (length plan ≡ length plan₀) × (firstsIn plan ≡ firstsIn plan₀) × Laid (netOf file net) (modeTiming mode (netOf file net)) (ownersIn plan) (wordsIn plan) (lateIn plan) (sourcesIn plan) (3 * e + p) total
 
 abbrev μ-loop : tie.MeasureT-loop
-μ-loop file net timing wires copied e plan₀ entries total₀ x n p₀ plan total p = n - p
+μ-loop file net timing wires copied e plan₀ mode entries total₀ x n p₀ plan total p = n - p
 
 read-at-requires : tie.Need-read-at-requires Inv-loop μ-loop
 read-at-requires c κs =
@@ -33,8 +34,8 @@ source-count-requires c κs =
     let a = s .args in
     let N = netOf (a .file .now) (a .net .now) in
     let t = s .pre .1 in
-    let h : a .e < entryCount N = omega (arith, t .5, t .7) in
-    (s .pre .0, owner-inside N h (t .8) (owner-is N h (a .plan .now) (t .0 .few) (c .wide .ensures .0 ∙ c .before .read-at .ensures)))
+    let h : a .e < entryCount N (modeTiming (a .made .mode) N) = omega (arith, t .5, t .7) in
+    (s .pre .0, owner-inside N _ h (t .8) (owner-is N _ h (a .plan .now) (t .0 .few) (c .wide .ensures .0 ∙ c .before .read-at .ensures)))
 
 loop-holds : tie.Need-loop-holds Inv-loop μ-loop
 loop-holds c =
@@ -50,9 +51,9 @@ returns c =
     let a = s .args in
     let N = netOf (a .file .now) (a .net .now) in
     let t = s .pre .1 in
-    let h : a .e < entryCount N = omega (arith, t .5, t .7) in
+    let h : a .e < entryCount N (modeTiming (a .made .mode) N) = omega (arith, t .5, t .7) in
     let i = c .before .before .loop .inv in
-    let z = laid-stop N (i .3) (3 * a .e + 3) (omega (arith, i .0, c .before .before .before .source-count .ensures .1)) (c .if1 .taken) in
+    let z = laid-stop N _ (i .3) (3 * a .e + 3) (omega (arith, i .0, c .before .before .before .source-count .ensures .1)) (c .if1 .taken) in
     (z .0, z .1, i .2)
 
 lay-wire-requires : tie.Need-lay-wire-requires Inv-loop μ-loop
@@ -61,9 +62,9 @@ lay-wire-requires c κs =
     let a = s .args in
     let N = netOf (a .file .now) (a .net .now) in
     let t = s .pre .1 in
-    let h : a .e < entryCount N = omega (arith, t .5, t .7) in
+    let h : a .e < entryCount N (modeTiming (a .made .mode) N) = omega (arith, t .5, t .7) in
     let i = c .before .before .before .loop .inv in
-    (s .pre .0, (planning-as (i .2) (t .0), t .1, t .2, t .3, i .1 ∙ t .4, t .5, omega (arith, c .before .if1 .left), t .7, subst (λ (v : ℕ). c .before .before .before .loop .p < operands (elementAt N v)) (owner-is N h (a .plan .now) (t .0 .few) (c .before .before .before .before .before .wide .ensures .0 ∙ c .before .before .before .before .before .before .read-at .ensures) ∙ owner-same N h (t .8) (i .3)) (omega (arith, c .before .before .before .before .source-count .ensures .0, c .before .before .loop-test .taken)), i .3))
+    (s .pre .0, (planning-as (i .2) (t .0), t .1, t .2, t .3, i .1 ∙ t .4, t .5, omega (arith, c .before .if1 .left), t .7, subst (λ (v : ℕ). c .before .before .before .loop .p < operands (elementAt N v)) (owner-is N _ h (a .plan .now) (t .0 .few) (c .before .before .before .before .before .wide .ensures .0 ∙ c .before .before .before .before .before .before .read-at .ensures) ∙ owner-same N _ h (t .8) (i .3)) (omega (arith, c .before .before .before .before .source-count .ensures .0, c .before .before .loop-test .taken)), i .3))
 
 add-p : tie.Need-add-p Inv-loop μ-loop
 add-p c = omega (arith, c .before .before .before .before .before .before .before .source-count .ensures .1, c .before .before .before .before .before .loop-test .taken)
@@ -88,12 +89,12 @@ returns-2 c =
     let a = s .args in
     let N = netOf (a .file .now) (a .net .now) in
     let t = s .pre .1 in
-    let h : a .e < entryCount N = omega (arith, t .5, t .7) in
+    let h : a .e < entryCount N (modeTiming (a .made .mode) N) = omega (arith, t .5, t .7) in
     let i = c .before .loop .inv in
     let n = c .before .before .source-count in
     let z : c .before .loop .p ≡ n .result = omega (arith, i .0, c .loop-test .left) in
-    let done = laid-rest N h (z ∙ n .ensures .0 ∙ ap (λ (v : ℕ). operands (elementAt N v)) (owner-is N h (a .plan .now) (t .0 .few) (c .before .before .before .wide .ensures .0 ∙ c .before .before .before .before .read-at .ensures) ∙ owner-same N h (t .8) (i .3))) (i .3) in
-    (λ g. done, laid-over N done (omega arith), i .2)
+    let done = laid-rest N _ h (z ∙ n .ensures .0 ∙ ap (λ (v : ℕ). operands (elementAt N v)) (owner-is N _ h (a .plan .now) (t .0 .few) (c .before .before .before .wide .ensures .0 ∙ c .before .before .before .before .read-at .ensures) ∙ owner-same N _ h (t .8) (i .3))) (i .3) in
+    (λ g. done, laid-over N _ done (omega arith), i .2)
 
 pub lay-entry-spec : {M : Type 1} → statement M
 lay-entry-spec =

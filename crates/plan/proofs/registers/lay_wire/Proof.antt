@@ -2,6 +2,7 @@
 use mathlib.Core.Path.{_∙_}
 use native.Mathlib.Omega.{arith}
 use Rattle.circuit.specs.Circuit.{netOf}
+use Rattle.retiming.specs.Modes.{modeTiming}
 use Rattle.wiring.specs.WiringLaws.{lead-few}
 use Rattle.plan.specs.RegistersLaws.{WireRead, wire-read, wire-laid}
 use Rattle.plan.proofs.registers.lay_wire.Statement.{statement}
@@ -11,7 +12,7 @@ use Rattle.plan.proofs.registers.lay_wire.Tie as tie
 abbrev start : tie.After-wide → tie.Start
 start c = c .before .before .before .before .before .before .before .before .before
 
-wire : (c : tie.After-wide) → WireRead (netOf (start c .args .file .now) (start c .args .net .now)) (start c .args .wires .now) (start c .args .plan .now) (start c .args .to .e) (start c .args .to .p) (c .wide .result)
+wire : (c : tie.After-wide) → WireRead (netOf (start c .args .file .now) (start c .args .net .now)) (modeTiming (start c .args .made .mode) (netOf (start c .args .file .now) (start c .args .net .now))) (start c .args .wires .now) (start c .args .plan .now) (start c .args .to .e) (start c .args .to .p) (c .wide .result)
 wire c =
     let a = start c .args in
     let t = start c .pre .1 in
@@ -80,43 +81,46 @@ read-at-requires-5 c κs =
 wide-requires-4 : tie.Need-wide-requires-4
 wide-requires-4 c κs = tt
 
+origin-of-requires : tie.Need-origin-of-requires
+origin-of-requires c κs = c .before .before .before .before .before .before .before .before .before .before .before .before .before .before .before .before .before .before .before .before .before .pre .0
+
 cast-put-registers : tie.Need-cast-put-registers
-cast-put-registers c = omega (arith, c .before .before .before .before .before .before .before .before .before .source-of .ensures .1)
+cast-put-registers c = omega (arith, c .before .before .before .before .before .before .before .before .before .before .source-of .ensures .1)
 
 put-registers-requires : tie.Need-put-registers-requires
 put-registers-requires c κs =
-    let t = c .before .before .before .before .before .before .before .before .before .before .before .before .before .before .before .before .before .before .before .before .before .before .pre .1 in
-    let w = c .before .before .before .before .before .before .before .before .before .before .before .before .before in
-    (omega (arith, c .before .wide4 .ensures .0 ∙ c .before .before .read-at5 .ensures, lead-few (t .0 .ready) (w .wide .result) (wire w .inside)), c .before .before .before .count-on .ensures .1, t .6, t .4)
+    let t = c .before .before .before .before .before .before .before .before .before .before .before .before .before .before .before .before .before .before .before .before .before .before .before .pre .1 in
+    let w = c .before .before .before .before .before .before .before .before .before .before .before .before .before .before in
+    (omega (arith, c .before .before .wide4 .ensures .0 ∙ c .before .before .before .read-at5 .ensures, lead-few (t .0 .ready) (w .wide .result) (wire w .inside)), c .before .before .before .before .count-on .ensures .1, t .6, t .4)
 
 mul-write-at : tie.Need-mul-write-at
-mul-write-at c = omega (arith, wire (c .before .before .before .before .before .before .before .before .before .before .before .before .before .before .before .before .before) .new)
+mul-write-at c = omega (arith, wire (c .before .before .before .before .before .before .before .before .before .before .before .before .before .before .before .before .before .before) .new)
 
 add-write-at : tie.Need-add-write-at
-add-write-at c = omega (arith, wire (c .before .before .before .before .before .before .before .before .before .before .before .before .before .before .before .before .before) .new)
+add-write-at c = omega (arith, wire (c .before .before .before .before .before .before .before .before .before .before .before .before .before .before .before .before .before .before) .new)
 
 add-write-at-2 : tie.Need-add-write-at-2
-add-write-at-2 c = omega (arith, wire (c .before .before .before .before .before .before .before .before .before .before .before .before .before .before .before .before .before) .new)
+add-write-at-2 c = omega (arith, wire (c .before .before .before .before .before .before .before .before .before .before .before .before .before .before .before .before .before .before) .new)
 
 last-of-requires : tie.Need-last-of-requires
-last-of-requires c κs = (c .before .before .before .before .before .before .before .count-on .ensures .1, c .before .before .before .before .before .before .before .before .before .before .before .before .before .before .before .before .before .before .before .before .before .before .before .before .before .before .pre .1 .6)
+last-of-requires c κs = (c .before .before .before .before .before .before .before .before .count-on .ensures .1, c .before .before .before .before .before .before .before .before .before .before .before .before .before .before .before .before .before .before .before .before .before .before .before .before .before .before .before .pre .1 .6)
 
 write-at-requires : tie.Need-write-at-requires
-write-at-requires c κs = omega (arith, wire (c .before .before .before .before .before .before .before .before .before .before .before .before .before .before .before .before .before .before) .new, c .before .before .before .before .put-registers .kept .1 .1 .1 .1 .1 .0 ∙ c .before .before .before .before .before .before .before .before .before .before .before .before .before .before .before .before .before .before .before .before .before .before .before .before .before .before .before .pre .1 .4)
+write-at-requires c κs = omega (arith, wire (c .before .before .before .before .before .before .before .before .before .before .before .before .before .before .before .before .before .before .before) .new, c .before .before .before .before .put-registers .kept .1 .1 .1 .1 .1 .1 .0 ∙ c .before .before .before .before .before .before .before .before .before .before .before .before .before .before .before .before .before .before .before .before .before .before .before .before .before .before .before .before .pre .1 .4)
 
 add-result : tie.Need-add-result
-add-result c = omega (arith, c .before .before .before .before .before .before .before .before .before .before .before .count-on .ensures .1, c .before .before .before .before .before .before .before .before .before .before .before .before .before .before .before .before .before .before .before .before .before .before .before .before .before .before .before .before .before .before .pre .1 .6)
+add-result c = omega (arith, c .before .before .before .before .before .before .before .before .before .before .before .before .count-on .ensures .1, c .before .before .before .before .before .before .before .before .before .before .before .before .before .before .before .before .before .before .before .before .before .before .before .before .before .before .before .before .before .before .before .pre .1 .6)
 
 same-length : tie.Need-same-length
-same-length c = c .before .before .write-at .kept .0 ∙ c .before .before .before .before .before .before .before .put-registers .kept .1 .1 .1 .1 .1 .0
+same-length c = c .before .before .write-at .kept .0 ∙ c .before .before .before .before .before .before .before .put-registers .kept .1 .1 .1 .1 .1 .1 .0
 
 returns : tie.Need-returns
 returns c =
-    let a = c .before .before .before .before .before .before .before .before .before .before .before .before .before .before .before .before .before .before .before .before .before .before .before .before .before .before .before .before .before .before .args in
-    let t = c .before .before .before .before .before .before .before .before .before .before .before .before .before .before .before .before .before .before .before .before .before .before .before .before .before .before .before .before .before .before .pre .1 in
+    let a = c .before .before .before .before .before .before .before .before .before .before .before .before .before .before .before .before .before .before .before .before .before .before .before .before .before .before .before .before .before .before .before .args in
+    let t = c .before .before .before .before .before .before .before .before .before .before .before .before .before .before .before .before .before .before .before .before .before .before .before .before .before .before .before .before .before .before .before .pre .1 in
     let q = c .before .before .before .before .before .before .before .put-registers in
-    let laid = wire-laid (a .wires .now) (a .plan .now) (t .0) (t .9) (t .5) (t .7) (t .8) (c .before .before .before .before .before .before .before .before .before .before .before .before .before .before .before .before .before .before .before .before .before .wide .ensures .0 ∙ c .before .before .before .before .before .before .before .before .before .before .before .before .before .before .before .before .before .before .before .before .before .before .read-at .ensures) (q .last .1 .1 .1 .1 .1 .0) (c .before .before .write-at .last .0) (c .before .before .before .before .before .before .before .before .before .before .before .before .before .before .before .before .before .before .before .wide2 .ensures .0 ∙ c .before .before .before .before .before .before .before .before .before .before .before .before .before .before .before .before .before .before .before .before .read-at2 .ensures) (c .before .before .before .before .before .before .before .before .before .before .before .before .before .before .before .before .before .before .source-of .ensures .0) (c .before .before .before .before .before .before .before .before .before .before .before .before .before .before .before .before .before .read-at3 .ensures) (c .before .before .before .before .before .before .before .before .before .before .before .before .before .before .wide3 .ensures .0 ∙ c .before .before .before .before .before .before .before .before .before .before .before .before .before .before .before .read-at4 .ensures) (c .before .before .before .before .before .before .before .before .before .before .before .before .find-from .ensures) (c .before .before .before .before .before .before .before .before .before .before .before .count-on .ensures .0) (c .before .before .before .before .before .before .before .before .before .wide4 .ensures .0 ∙ c .before .before .before .before .before .before .before .before .before .before .read-at5 .ensures) (q .ensures) (q .kept .1 .1 .1 .1 .1 .0 ∙ t .4) (c .before .before .write-at .ensures) (c .before .before .before .last-of .ensures) in
-    (laid .0, omega (arith, c .before .before .before .before .before .before .before .before .before .before .before .count-on .ensures .1, t .6), laid .1)
+    let laid = wire-laid (a .wires .now) (a .plan .now) (t .0) (t .9) (t .5) (t .7) (t .8) (c .before .before .before .before .before .before .before .before .before .before .before .before .before .before .before .before .before .before .before .before .before .before .wide .ensures .0 ∙ c .before .before .before .before .before .before .before .before .before .before .before .before .before .before .before .before .before .before .before .before .before .before .before .read-at .ensures) (q .last .1 .1 .1 .1 .1 .1 .0) (c .before .before .write-at .last .0) (c .before .before .before .before .before .before .before .before .before .before .before .before .before .before .before .before .before .before .before .before .wide2 .ensures .0 ∙ c .before .before .before .before .before .before .before .before .before .before .before .before .before .before .before .before .before .before .before .before .before .read-at2 .ensures) (c .before .before .before .before .before .before .before .before .before .before .before .before .before .before .before .before .before .before .before .source-of .ensures .0) (c .before .before .before .before .before .before .before .before .before .before .before .before .before .before .before .before .before .before .read-at3 .ensures) (c .before .before .before .before .before .before .before .before .before .before .before .before .before .before .before .wide3 .ensures .0 ∙ c .before .before .before .before .before .before .before .before .before .before .before .before .before .before .before .before .read-at4 .ensures) (c .before .before .before .before .before .before .before .before .before .before .before .before .before .find-from .ensures) (c .before .before .before .before .before .before .before .before .before .before .before .before .count-on .ensures .0) (c .before .before .before .before .before .before .before .before .before .before .wide4 .ensures .0 ∙ c .before .before .before .before .before .before .before .before .before .before .before .read-at5 .ensures) (c .before .before .before .before .before .before .before .before .before .origin-of .ensures .0) (q .ensures) (q .kept .1 .1 .1 .1 .1 .1 .0 ∙ t .4) (c .before .before .write-at .ensures) (c .before .before .before .last-of .ensures) in
+    (laid .0, omega (arith, c .before .before .before .before .before .before .before .before .before .before .before .before .count-on .ensures .1, t .6), laid .1)
 
 pub lay-wire-spec : {M : Type 1} → statement M
 lay-wire-spec =
@@ -139,6 +143,7 @@ lay-wire-spec =
     count-on-requires
     read-at-requires-5
     wide-requires-4
+    origin-of-requires
     cast-put-registers
     put-registers-requires
     mul-write-at

@@ -6,6 +6,7 @@ use native.Mathlib.Omega.{arith}
 use lib.ListN.{length}
 use Rattle.lists.specs.BelowLaws.{lt-or-le}
 use Rattle.circuit.specs.Circuit.{netOf}
+use Rattle.retiming.specs.Modes.{modeTiming}
 use Rattle.plan.specs.Areas.{ownersIn, wordsIn, lateIn, firstsIn, sourcesIn}
 use Rattle.plan.specs.Registers.{Laid, AllLaid}
 use Rattle.plan.specs.RegistersLaws.{laid-at, planning-as, laid-all}
@@ -13,13 +14,13 @@ use Rattle.plan.proofs.registers.lay_wires.Statement.{statement}
 use Rattle.plan.proofs.registers.lay_wires.Tie as tie
 
 abbrev Inv-loop : tie.InvT-loop
-Inv-loop file net timing wires copied entries plan₀ total₀ e₀ plan total e =
+Inv-loop file net mode timing wires copied entries plan₀ total₀ e₀ plan total e =
     (e ≤ entries) × (length plan ≡ length plan₀) × (firstsIn plan ≡ firstsIn plan₀)
-    × (total ≤ 1024 → Laid (netOf file net) (ownersIn plan) (wordsIn plan) (lateIn plan) (sourcesIn plan) (3 * e) total)
-    × (1024 < total → AllLaid (netOf file net) (ownersIn plan) (wordsIn plan) (lateIn plan) (sourcesIn plan) total)
+    × (total ≤ 1024 → Laid (netOf file net) (modeTiming mode (netOf file net)) (ownersIn plan) (wordsIn plan) (lateIn plan) (sourcesIn plan) (3 * e) total)
+    × (1024 < total → AllLaid (netOf file net) (modeTiming mode (netOf file net)) (ownersIn plan) (wordsIn plan) (lateIn plan) (sourcesIn plan) total)
 
 abbrev μ-loop : tie.MeasureT-loop
-μ-loop file net timing wires copied entries plan₀ total₀ e₀ plan total e = entries - e
+μ-loop file net mode timing wires copied entries plan₀ total₀ e₀ plan total e = entries - e
 
 loop-holds : tie.Need-loop-holds Inv-loop μ-loop
 loop-holds c =
@@ -60,7 +61,7 @@ returns-2 : tie.Need-returns-2 Inv-loop μ-loop
 returns-2 c =
     let s = c .before .before .before .before .before .before .before .before in
     let l = c .before .loop in
-    ⊎-elim (l .inv .4) (λ g. laid-all (netOf (s .args .file .now) (s .args .net .now)) (l .inv .3 g) (omega (arith, l .inv .0, c .loop-test .left, s .pre .1 .4))) (lt-or-le 1024 (l .total))
+    ⊎-elim (l .inv .4) (λ g. laid-all (netOf (s .args .file .now) (s .args .net .now)) _ (l .inv .3 g) (omega (arith, l .inv .0, c .loop-test .left, s .pre .1 .4))) (lt-or-le 1024 (l .total))
 
 pub lay-wires-spec : {M : Type 1} → statement M
 lay-wires-spec =
