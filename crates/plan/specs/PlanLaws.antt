@@ -24,7 +24,7 @@ use Rattle.wiring.specs.WiringLaws.{wire-inside, asked-before, asked-after, lea
 use Rattle.wiring.specs.Links.{LinkedFrom, RomsLinked, linked-none, linked-as, roms-linked}
 use Rattle.plan.specs.Entries.{Wants, AllPlaced}
 use Rattle.plan.specs.EntriesLaws.{all-wanted}
-use Rattle.plan.specs.Registers.{entryCount, entryAt, wiresBefore, Planning, RegHeld, HeadHeld, Laid, AllLaid}
+use Rattle.plan.specs.Registers.{entryCount, entryAt, rowBefore, wiresBefore, Planning, RegHeld, HeadHeld, Laid, AllLaid}
 use Rattle.plan.specs.RegistersRow.{regs-in-row, reader-stands}
 use Rattle.plan.specs.Areas.{ownersIn, wordsIn, lateIn, firstsIn, sourcesIn}
 use Rattle.plan.specs.Plan.{PlanLaid}
@@ -92,7 +92,7 @@ module _ {N : Net} {f : Timing} {leads roots passes ends froms clocks : List ℕ
     }
 
     pub laid-first : {late : List ℕ} (sources : List ℕ) → late ≡ replicate 1024 65535 → Laid N f owners words late sources 0 entries
-    unfolding wiresBefore
+    unfolding rowBefore
     laid-first sources e = record {
       held = placed .exact few .1;
       count = omega (arith, entries-are);

@@ -40,14 +40,17 @@ module _ (N : Net) (f : Timing) where
   abbrev pub entryAt : ℕ → Place
   entryAt i = getD (entryPlaces N f (zeroWord N)) i noPlace
 
-  -- the registers on the wire to operand p of an entry
-  abbrev pub wireOf : Place → ℕ → List Place
-  wireOf (Entry x c) p = cond (ltb p (operands (elementAt N x))) (regsOn N f (zeroWord N) x c p) []
-  wireOf (Reg x c p j) q = []
+  -- what stands on the wire to operand p of an entry; and on the first m wires, three to an entry
+  abbrev pub wireOn : {A : Type 0} → (ℕ → ℕ → ℕ → List A) → Place → ℕ → List A
+  wireOn g (Entry x c) p = cond (ltb p (operands (elementAt N x))) (g x c p) []
+  wireOn g (Reg x c p j) q = []
 
-  -- those of the first m wires, three to an entry
-  unfoldable pub wiresBefore : ℕ → List Place
-  wiresBefore m = concatMap (λ j. wireOf (entryAt (j / 3)) (j % 3)) (below m)
+  unfoldable pub rowBefore : {A : Type 0} → (ℕ → ℕ → ℕ → List A) → ℕ → List A
+  rowBefore g m = concatMap (λ j. wireOn g (entryAt (j / 3)) (j % 3)) (below m)
+
+  -- the registers
+  abbrev pub wiresBefore : ℕ → List Place
+  wiresBefore m = rowBefore (regsOn N f (zeroWord N)) m
 
   -- what is at hand once the entries are placed
   pub record Planning (leads roots passes ends copied firsts : List ℕ) : Type 0 where

@@ -19,15 +19,14 @@ use Rattle.behaviour.specs.Run.{zeroWord}
 use Rattle.retiming.specs.Rewrite.{Timing, Place, Entry, Reg, root, countOn, copyOn, copies, stays, regsOn, entryPlaces, numberOf, along}
 use Rattle.retiming.specs.Layout.{noPlace, Stands, root-stands, stays-if, copy-on, along-reg, along-end}
 use Rattle.retiming.specs.Wires.{root-within}
-use Rattle.lists.specs.Threes.{concat-longer}
 use Rattle.wires.specs.Traced.{rootsIn, passesIn}
 use Rattle.wiring.specs.Wiring.{endsIn, countFrom, count-from, askedClock, wireCount, sourceOf, wireAt}
 use Rattle.wiring.specs.WiringLaws.{count-kept}
 use Rattle.plan.specs.Areas.{ownersIn, wordsIn, lateIn, firstsIn, sourcesIn}
 use Rattle.plan.specs.Entries.{Finds, Stored, entriesBefore}
-use Rattle.plan.specs.Registers.{behind, PutsRegisters, entryCount, entryAt, wireOf, wiresBefore, Planning, HeadHeld, RegHeld, Laid, AllLaid}
+use Rattle.plan.specs.Registers.{behind, PutsRegisters, entryCount, entryAt, wireOn, wiresBefore, Planning, HeadHeld, RegHeld, Laid, AllLaid}
 use Rattle.plan.specs.RegistersPut.{source-put, puts-as}
-use Rattle.plan.specs.RegistersRow.{wires-next, reg-number, entry-number, entries-few, reader-stands, wires-all}
+use Rattle.plan.specs.RegistersRow.{row-next, row-longer, reg-number, entry-number, entries-few, reader-stands, wires-all}
 
 -- ---- one wire more
 
@@ -55,8 +54,8 @@ module _ {N : Net} {f : Timing} {owners words late sources : List ℕ} {m total 
   module _ (none : operands (elementAt N x) ≤ p) where
     same-wires : wiresBefore N f (m + 1) ≡ wiresBefore N f m
     same-wires =
-        wires-next N f m
-        ∙ ap (λ (pl : Place). wiresBefore N f m ++ wireOf N f pl p) entry-here
+        row-next N f (regsOn N f (zeroWord N)) m
+        ∙ ap (λ (pl : Place). wiresBefore N f m ++ wireOn N f (regsOn N f (zeroWord N)) pl p) entry-here
         ∙ ap (λ (b : Bool). wiresBefore N f m ++ cond b (regsOn N f (zeroWord N) x w p) []) (le-ltb p (operands (elementAt N x)) none)
         ∙ append-nil (wiresBefore N f m)
 
@@ -138,8 +137,8 @@ module _ {N : Net} {f : Timing} {owners words late sources : List ℕ} {m total 
           more-wires : wiresBefore N f (m + 1) ≡ wiresBefore N f m ++ here
           unfolding here
           more-wires =
-              wires-next N f m
-              ∙ ap (λ (pl : Place). wiresBefore N f m ++ wireOf N f pl p) entry-here
+              row-next N f (regsOn N f (zeroWord N)) m
+              ∙ ap (λ (pl : Place). wiresBefore N f m ++ wireOn N f (regsOn N f (zeroWord N)) pl p) entry-here
               ∙ ap (λ (b : Bool). wiresBefore N f m ++ cond b (regsOn N f (zeroWord N) x w p) []) (lt-ltb p (operands (elementAt N x)) operand-here)
 
           here-length : length here ≡ count
@@ -360,11 +359,7 @@ planning-as {N} {f} {leads} {roots} {passes} {ends} {copied} e t = subst (Planni
 
 module _ (N : Net) (f : Timing) {owners words late sources : List ℕ} {m total : ℕ} (d : Laid N f owners words late sources m total) where
   pub laid-over : m ≤ 3 * entryCount N f → 1024 < total → AllLaid N f owners words late sources total
-  unfolding wiresBefore
-  laid-over h o = record { exact = λ e. absurd (omega arith); over = λ e. omega (arith, d .count, longer) }
-    where
-      longer : length (wiresBefore N f m) ≤ length (wiresBefore N f (3 * entryCount N f))
-      longer = concat-longer (λ j. wireOf N f (entryAt N f (j / 3)) (j % 3)) m (3 * entryCount N f) h
+  laid-over h o = record { exact = λ e. absurd (omega arith); over = λ e. omega (arith, d .count, row-longer N f (regsOn N f (zeroWord N)) m (3 * entryCount N f) h) }
 
   -- where there are too many, nothing is said of the next wires
   pub laid-stop : (k : ℕ) → m ≤ 3 * entryCount N f → 1024 < total → (total ≤ 1024 → Laid N f owners words late sources k total) × (1024 < total → AllLaid N f owners words late sources total)

@@ -20,72 +20,83 @@ use Rattle.behaviour.specs.Run.{zeroWord}
 use Rattle.retiming.specs.Rewrite.{Timing, Place, Entry, Reg, copies, entriesOf, wiresOf, wiresAll, wirePlaces, regsOn, entryPlaces, regPlaces, places, numberOf}
 use Rattle.retiming.specs.Layout.{noPlace, Stands, Sound, places-sound}
 use Rattle.retiming.specs.Numbers.{number-of-place}
-use Rattle.lists.specs.Threes.{concat-next, concat-after, row-of-three, in-threes}
+use Rattle.lists.specs.Threes.{concat-next, concat-after, concat-longer, row-of-three, in-threes}
 use Rattle.wiring.specs.Wiring.{wiresTo}
 use Rattle.plan.specs.Entries.{Finds, Stored, entriesBefore}
 use Rattle.plan.specs.EntriesLaws.{longer-after, entries-all}
-use Rattle.plan.specs.Registers.{entryCount, entryAt, wireOf, wiresBefore}
+use Rattle.plan.specs.Registers.{entryCount, entryAt, wireOn, rowBefore, wiresBefore}
 
--- ---- all registers are those of the entries' wires
+-- ---- what stands on the wires, by entry
 
-module _ (N : Net) (f : Timing) where
+module _ {A : Type 0} (N : Net) (f : Timing) (g : ℕ → ℕ → ℕ → List A) where
   -- of an entry, and nothing of a register
-  abbrev wiresAt : Place → List Place
-  wiresAt (Entry x c) = wiresOf N f (zeroWord N) (regsOn N f (zeroWord N)) x c
+  abbrev wiresAt : Place → List A
+  wiresAt (Entry x c) = wiresOf N f (zeroWord N) g x c
   wiresAt (Reg x c p j) = []
 
-  of-copies : (x : ℕ) (d : List ℕ) → concatMap (wiresOf N f (zeroWord N) (regsOn N f (zeroWord N)) x) d ≡ concatMap wiresAt (map (Entry x) d)
+  of-copies : (x : ℕ) (d : List ℕ) → concatMap (wiresOf N f (zeroWord N) g x) d ≡ concatMap wiresAt (map (Entry x) d)
   of-copies x [] = refl
-  of-copies x (c ∷ d) = ap (λ (l : List Place). wiresAt (Entry x c) ++ l) (of-copies x d)
+  of-copies x (c ∷ d) = ap (λ (l : List A). wiresAt (Entry x c) ++ l) (of-copies x d)
 
-  regs-by-entry : regPlaces N f (zeroWord N) ≡ concatMap wiresAt (entryPlaces N f (zeroWord N))
-  unfolding regPlaces wirePlaces wiresAll entryPlaces entriesOf
-  regs-by-entry =
-      concatMap-cong (wiresAll N f (zeroWord N) (regsOn N f (zeroWord N))) (λ x. concatMap wiresAt (map (Entry x) (copies N f (zeroWord N) x))) 0 (size N) (λ x h. of-copies x (copies N f (zeroWord N) x))
+  row-by-entry : wirePlaces N f (zeroWord N) g ≡ concatMap wiresAt (entryPlaces N f (zeroWord N))
+  unfolding wirePlaces wiresAll entryPlaces entriesOf
+  row-by-entry =
+      concatMap-cong (wiresAll N f (zeroWord N) g) (λ x. concatMap wiresAt (map (Entry x) (copies N f (zeroWord N) x))) 0 (size N) (λ x h. of-copies x (copies N f (zeroWord N) x))
       ∙ sym (concatMap-concatMap wiresAt (entriesOf N f (zeroWord N)) (below (size N)))
 
   -- a place's three wires
-  three-wires : (pl : Place) → wiresAt pl ≡ wireOf N f pl 0 ++ wireOf N f pl 1 ++ wireOf N f pl 2
+  three-wires : (pl : Place) → wiresAt pl ≡ wireOn N f g pl 0 ++ wireOn N f g pl 1 ++ wireOn N f g pl 2
   unfolding wiresOf
-  three-wires (Entry x c) = row-of-three (operands (elementAt N x)) (regsOn N f (zeroWord N) x c) (few-operands (elementAt N x))
+  three-wires (Entry x c) = row-of-three (operands (elementAt N x)) (g x c) (few-operands (elementAt N x))
   three-wires (Reg x c p j) = refl
 
-  row-at : (i p : ℕ) → p < 3 → wireOf N f (entryAt N f i) p ≡ wireOf N f (entryAt N f ((3 * i + p) / 3)) ((3 * i + p) % 3)
+  row-at : (i p : ℕ) → p < 3 → wireOn N f g (entryAt N f i) p ≡ wireOn N f g (entryAt N f ((3 * i + p) / 3)) ((3 * i + p) % 3)
   row-at i p h =
       let a : i ≡ (3 * i + p) / 3 = omega arith in
       let b : p ≡ (3 * i + p) % 3 = omega arith in
-      ap₂ (λ (k q : ℕ). wireOf N f (entryAt N f k) q) a b
+      ap₂ (λ (k q : ℕ). wireOn N f g (entryAt N f k) q) a b
 
-  pub regs-in-row : regPlaces N f (zeroWord N) ≡ wiresBefore N f (3 * entryCount N f)
-  unfolding wiresBefore
-  regs-in-row =
-      regs-by-entry
+  pub row-all : wirePlaces N f (zeroWord N) g ≡ rowBefore N f g (3 * entryCount N f)
+  unfolding rowBefore
+  row-all =
+      row-by-entry
       ∙ sym (concatMap-below-getD (λ i. wiresAt (entryAt N f i)) wiresAt (entryPlaces N f (zeroWord N)) noPlace 0 (λ v h. ap (λ (i : ℕ). wiresAt (entryAt N f i)) (zero-add v)))
-      ∙ in-threes (λ i. wiresAt (entryAt N f i)) (λ j. wireOf N f (entryAt N f (j / 3)) (j % 3)) (entryCount N f) (λ i h.
+      ∙ in-threes (λ i. wiresAt (entryAt N f i)) (λ j. wireOn N f g (entryAt N f (j / 3)) (j % 3)) (entryCount N f) (λ i h.
       let z : 3 * i + 0 ≡ 3 * i = omega arith in
-      three-wires (entryAt N f i) ∙ ap₂ _++_ (ap₂ _++_ (row-at i 0 (omega arith) ∙ ap (λ (k : ℕ). wireOf N f (entryAt N f (k / 3)) (k % 3)) z) (row-at i 1 (omega arith))) (row-at i 2 (omega arith)))
+      three-wires (entryAt N f i) ∙ ap₂ _++_ (ap₂ _++_ (row-at i 0 (omega arith) ∙ ap (λ (k : ℕ). wireOn N f g (entryAt N f (k / 3)) (k % 3)) z) (row-at i 1 (omega arith))) (row-at i 2 (omega arith)))
 
-  pub wires-next : (m : ℕ) → wiresBefore N f (m + 1) ≡ wiresBefore N f m ++ wireOf N f (entryAt N f (m / 3)) (m % 3)
-  unfolding wiresBefore
-  wires-next m = concat-next (λ j. wireOf N f (entryAt N f (j / 3)) (j % 3)) m
+  pub row-next : (m : ℕ) → rowBefore N f g (m + 1) ≡ rowBefore N f g m ++ wireOn N f g (entryAt N f (m / 3)) (m % 3)
+  unfolding rowBefore
+  row-next m = concat-next (λ j. wireOn N f g (entryAt N f (j / 3)) (j % 3)) m
 
-  -- the first wires' registers come first
-  wires-after : (m k : ℕ) → wiresBefore N f (m + k) ≡ wiresBefore N f m ++ concatMap (λ j. wireOf N f (entryAt N f (j / 3)) (j % 3)) (upFrom (0 + m) k)
-  unfolding wiresBefore
-  wires-after m k = concat-after (λ j. wireOf N f (entryAt N f (j / 3)) (j % 3)) m k
+  -- what stands on the first wires comes first
+  row-after : (m k : ℕ) → rowBefore N f g (m + k) ≡ rowBefore N f g m ++ concatMap (λ j. wireOn N f g (entryAt N f (j / 3)) (j % 3)) (upFrom (0 + m) k)
+  unfolding rowBefore
+  row-after m k = concat-after (λ j. wireOn N f g (entryAt N f (j / 3)) (j % 3)) m k
 
-  wires-first : (m b i : ℕ) → m ≤ b → i < length (wiresBefore N f m) → (i < length (wiresBefore N f b)) × (getD (wiresBefore N f b) i noPlace ≡ getD (wiresBefore N f m) i noPlace)
-  wires-first m b i h k =
+  pub row-longer : (m b : ℕ) → m ≤ b → length (rowBefore N f g m) ≤ length (rowBefore N f g b)
+  unfolding rowBefore
+  row-longer m b h = concat-longer (λ j. wireOn N f g (entryAt N f (j / 3)) (j % 3)) m b h
+
+  pub row-first : (d : A) (m b i : ℕ) → m ≤ b → i < length (rowBefore N f g m) → (i < length (rowBefore N f g b)) × (getD (rowBefore N f g b) i d ≡ getD (rowBefore N f g m) i d)
+  row-first d m b i h k =
       let e : m + (b - m) ≡ b = omega arith in
-      let rest : List Place = concatMap (λ j. wireOf N f (entryAt N f (j / 3)) (j % 3)) (upFrom (0 + m) (b - m)) in
-      let q : wiresBefore N f b ≡ wiresBefore N f m ++ rest = ap (wiresBefore N f) (sym e) ∙ wires-after m (b - m) in
-      (omega (arith, ap length q, length-append (wiresBefore N f m) rest), ap (λ (l : List Place). getD l i noPlace) q ∙ List·getD-append (wiresBefore N f m) rest noPlace i k)
+      let rest : List A = concatMap (λ j. wireOn N f g (entryAt N f (j / 3)) (j % 3)) (upFrom (0 + m) (b - m)) in
+      let q : rowBefore N f g b ≡ rowBefore N f g m ++ rest = ap (rowBefore N f g) (sym e) ∙ row-after m (b - m) in
+      (omega (arith, ap length q, length-append (rowBefore N f g m) rest), ap (λ (l : List A). getD l i d) q ∙ List·getD-append (rowBefore N f g m) rest d i k)
+
+-- ---- the registers
+
+module _ (N : Net) (f : Timing) where
+  pub regs-in-row : regPlaces N f (zeroWord N) ≡ wiresBefore N f (3 * entryCount N f)
+  unfolding regPlaces
+  regs-in-row = row-all N f (regsOn N f (zeroWord N))
 
   -- so a register of the first wires has the number of its place
   pub reg-number : (m i : ℕ) → m ≤ 3 * entryCount N f → i < length (wiresBefore N f m) → numberOf N f (zeroWord N) (getD (wiresBefore N f m) i noPlace) ≡ entryCount N f + i
   unfolding places
   reg-number m i h k =
-      let w = wires-first m (3 * entryCount N f) i h k in
+      let w = row-first N f (regsOn N f (zeroWord N)) noPlace m (3 * entryCount N f) i h k in
       let e : getD (regPlaces N f (zeroWord N)) i noPlace ≡ getD (wiresBefore N f m) i noPlace = ap (λ (l : List Place). getD l i noPlace) regs-in-row ∙ w .1 in
       let l : entryCount N f + i < length (places N f (zeroWord N)) = omega (arith, length-append (entryPlaces N f (zeroWord N)) (regPlaces N f (zeroWord N)), ap length regs-in-row, w .0) in
       ap (numberOf N f (zeroWord N)) (sym (getD-append-add (entryPlaces N f (zeroWord N)) (regPlaces N f (zeroWord N)) i noPlace ∙ e))
