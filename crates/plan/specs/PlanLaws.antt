@@ -145,7 +145,7 @@ module _ {N : Net} {f : Timing} {timing : List ℕ} (wires : List ℕ) (ready : 
 
 -- ---- the registers, and all
 
-places-length : (N : Net) (f : Timing) → length (places N f (zeroWord N)) ≡ entryCount N f + length (wiresBefore N f (3 * entryCount N f))
+pub places-length : (N : Net) (f : Timing) → length (places N f (zeroWord N)) ≡ entryCount N f + length (wiresBefore N f (3 * entryCount N f))
 unfolding places
 places-length N f = length-append (entryPlaces N f (zeroWord N)) (regPlaces N f (zeroWord N)) ∙ ap (λ (l : List Place). entryCount N f + length l) (regs-in-row N f)
 

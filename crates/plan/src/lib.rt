@@ -1,6 +1,6 @@
 // Where everything goes in the rewritten netlist, and which words its ROMs take over: document 01, "Leads and the rewritten file".
 mod entries;
-mod registers;
+pub mod registers;
 
 use areas::fill;
 use circuit::node_count;
@@ -45,6 +45,12 @@ pub struct Plan {
     pub mode: Mode,
     pub entries: usize,
     pub total: usize,
+}
+
+// Operand p of entry e.
+pub struct Operand {
+    pub e: usize,
+    pub p: usize,
 }
 
 // The words that the roots of the wires need as reset words.

@@ -1,6 +1,7 @@
 // The registers of the rewritten netlist: those of each wire, by reader, by operand, from source to reader; and what each entry reads.
 use super::FIRSTS;
 use super::LATE;
+use super::Operand;
 use super::Plan;
 use super::SOURCES;
 use super::entries::find_from;
@@ -26,7 +27,7 @@ ghost use Rattle.plan.specs.Areas.{ownersIn, wordsIn, lateIn, firstsIn, 
 ghost use Rattle.plan.specs.Registers.{behind, PutsRegisters, entryCount, Planning, Laid, AllLaid};
 
 // Puts register r, which has the words of node s from a clock on and reads a node, where there is room for it.
-fn put_register(r: usize, s: u16, clock: u16, before: u16, plan: &mut [u16])
+pub fn put_register(r: usize, s: u16, clock: u16, before: u16, plan: &mut [u16])
     requires { ⌜ (r ≤ 65535) × (length (now plan) ≡ 7168) ⌝ }
     ensures { λ _. ⌜ (ownersIn (now (plan .exit)) ≡ set (ownersIn (now (plan .entry))) r s) × (lateIn (now (plan .exit)) ≡ set (lateIn (now (plan .entry))) r clock)
         × (sourcesIn (now (plan .exit)) ≡ set (sourcesIn (now (plan .entry))) (3 * r) before)
@@ -80,12 +81,6 @@ fn last_of(from: u16, start: usize, count: usize) -> u16
     } else {
         (start + count - 1) as u16
     }
-}
-
-// Operand p of entry e.
-struct Operand {
-    e: usize,
-    p: usize,
 }
 
 // Lays the wire to an operand of an entry; gives the number of nodes. In the old netlist its number is k.

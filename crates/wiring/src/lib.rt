@@ -37,7 +37,7 @@ pub const HEADS: usize = 9216;
 pub const WIRES: usize = 10240;
 
 // What is left of a number: nothing where more is taken.
-fn minus(a: usize, b: usize) -> usize
+pub fn minus(a: usize, b: usize) -> usize
     ensures { λ r. ⌜ r ≡ a - b ⌝ }
 {
     if a < b { 0 } else { a - b }
@@ -102,7 +102,7 @@ pub fn count_on(file: &[u8], net: &[u16], mode: Mode, timing: &[u16], x: usize, 
 }
 
 // How many wires end at node v: none at a register, nor at a node that is left out.
-fn wires_to(file: &[u8], net: &[u16], mode: Mode, timing: &[u16], v: usize) -> usize
+pub fn wires_to(file: &[u8], net: &[u16], mode: Mode, timing: &[u16], v: usize) -> usize
     ghost { Net }
     requires { λ N. opened 𝓤 (now file) (now net) N (Timed N (modeTiming mode N) (now timing) × (length (now timing) ≡ 3072) × (v < size N)) }
     ensures { λ N r. ⌜ (r ≡ wireCount N (modeTiming mode N) v) × (r ≤ 3) ⌝ }
