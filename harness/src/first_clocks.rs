@@ -16,7 +16,7 @@ pub struct FirstClocks {
 impl FirstClocks {
     /// Runs the netlist for as many clocks as the largest lead, at each clock only the nodes
     /// whose words are still wanted.
-    pub fn new(checked: &Checked, leads: &[u16]) -> Self {
+    pub fn new(checked: &Checked, leads: &[i32]) -> Self {
         let netlist = &checked.netlist;
         let wanted = wanted(checked, leads);
         let most = wanted.iter().copied().max().unwrap_or(0);
@@ -60,17 +60,19 @@ impl FirstClocks {
     }
 
     /// A gate's or asynchronous ROM's word at a clock below its lead, or a clocked ROM's at a
-    /// clock up to its lead.
-    pub fn word(&self, number: u16, clock: u16) -> u16 {
-        self.words[self.start[usize::from(number)] as usize + usize::from(clock)]
+    /// clock up to its lead. Clocks are counted from 0.
+    pub fn word(&self, number: u16, clock: i32) -> u16 {
+        self.words[self.start[usize::from(number)] as usize + clock as usize]
     }
 }
 
 /// At how many clocks each node's word is wanted: below the lead for a reset word further on,
 /// and for a clocked ROM at its lead, for its own.
-fn wanted(checked: &Checked, leads: &[u16]) -> Vec<u16> {
+fn wanted(checked: &Checked, leads: &[i32]) -> Vec<u16> {
     let nodes = &checked.netlist.nodes;
-    let mut wanted = leads.to_vec();
+    // A node that runs late is wanted at no clock.
+    let early = |lead: i32| lead.max(0) as u16;
+    let mut wanted: Vec<u16> = leads.iter().copied().map(early).collect();
     for (number, node) in nodes.iter().enumerate() {
         if node.kind == Kind::ClockedRom {
             wanted[number] += 1;
@@ -78,7 +80,7 @@ fn wanted(checked: &Checked, leads: &[u16]) -> Vec<u16> {
         for &source in node.sources() {
             if nodes[usize::from(source)].kind == Kind::Register {
                 let clocks = &mut wanted[usize::from(source)];
-                *clocks = leads[number].max(*clocks);
+                *clocks = early(leads[number]).max(*clocks);
             }
         }
     }

@@ -2,15 +2,19 @@
 //! and what it takes to hold the product against it: random netlists, test vectors, and the
 //! product's C interface.
 //!
-//! Lower layer: [`netlist`], [`format`] and [`checks`]. Above it: [`simulate`], [`rewrite`] and
-//! [`preview`].
+//! Lower layer: [`netlist`], [`format`] and [`checks`]. Above it: [`simulate`], [`rewrite`],
+//! [`late`] and [`preview`].
 
 pub mod checks;
+pub mod copies;
 pub mod design;
 pub mod first_clocks;
 pub mod format;
+pub mod late;
 pub mod leads;
+pub mod lent;
 pub mod netlist;
+pub mod plan;
 pub mod preview;
 pub mod previewed;
 #[cfg(feature = "check")]
@@ -18,6 +22,7 @@ pub mod product;
 pub mod random;
 pub mod refusal;
 pub mod rewrite;
+pub mod side_by_side;
 pub mod simulate;
 pub mod spelled_out;
 pub mod stack;
@@ -25,6 +30,7 @@ pub mod vectors;
 pub mod workloads;
 
 pub use checks::check;
+pub use late::rewrite_late;
 pub use preview::{preview, Size};
 pub use refusal::{Answer, Refusal};
 pub use rewrite::rewrite;
@@ -34,24 +40,28 @@ pub use simulate::{reset, run};
 pub type Check = fn(&[u8]) -> Answer;
 /// A service on a file and a lent list that tells a size: the preview.
 pub type Preview = fn(&[u8], &mut [u8]) -> Result<Size, Refusal>;
-/// A service on a file and lent bytes: the reset and the rewriter.
+/// A service on a file and lent bytes: the reset, and the rewriter in either mode.
 pub type OnBytes = fn(&[u8], &mut [u8]) -> Answer;
 /// A service on a file, its state, inputs and outputs: the run.
 pub type OneClock = fn(&[u8], &mut [u8], &[u8], &mut [u8]) -> Answer;
 
-/// The services that one side offers beyond the check: the harness or the product.
+/// The services that one side offers: the harness or the product.
 pub struct Services {
+    pub check: Check,
     pub reset: OnBytes,
     pub run: OneClock,
     pub rewrite: OnBytes,
+    pub rewrite_late: OnBytes,
     pub preview: Preview,
 }
 
 /// The harness's own services.
 pub const OWN: Services = Services {
+    check,
     reset,
     run,
     rewrite,
+    rewrite_late,
     preview,
 };
 

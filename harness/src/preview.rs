@@ -26,7 +26,9 @@ pub struct Size {
 
 /// Tells the size, and writes the registers by source, two bytes a number.
 pub fn preview(file: &[u8], by_source: &mut [u8]) -> Result<Size, Refusal> {
-    let Retimed { leads, netlist } = retimed(&checked(file)?)?;
+    let Retimed {
+        timing, netlist, ..
+    } = retimed(&checked(file)?)?;
     let numbers = registers_by_source(&netlist);
     let Some(lent) = by_source.get_mut(..2 * numbers.len()) else {
         return refuse(OUT, NOWHERE);
@@ -34,12 +36,13 @@ pub fn preview(file: &[u8], by_source: &mut [u8]) -> Result<Size, Refusal> {
     for (bytes, number) in lent.chunks_exact_mut(2).zip(&numbers) {
         bytes.copy_from_slice(&number.to_be_bytes());
     }
+    // The 0 that stands for a register is no larger than any lead.
+    let largest_lead = timing.leads.into_iter().max().unwrap_or(0);
     Ok(Size {
         clocked_roms: netlist.count(Kind::ClockedRom),
         registers: netlist.count(Kind::Register),
         length: format::file_len(&netlist),
-        // The 0 that stands for a register is no larger than any lead.
-        largest_lead: leads.into_iter().max().map_or(0, usize::from),
+        largest_lead: largest_lead as usize,
         sources: numbers.len(),
     })
 }

@@ -35,6 +35,9 @@ extern "C" {
     #[cfg(feature = "rewrite")]
     fn punqelis_rewrite(file: *const u8, file_len: usize, out: *mut u8, out_len: usize) -> u32;
     #[cfg(feature = "rewrite")]
+    fn punqelis_rewrite_late(file: *const u8, file_len: usize, out: *mut u8, out_len: usize)
+        -> u32;
+    #[cfg(feature = "rewrite")]
     fn punqelis_preview(
         file: *const u8,
         file_len: usize,
@@ -45,9 +48,11 @@ extern "C" {
 
 #[cfg(feature = "rewrite")]
 pub const SERVICES: Services = Services {
+    check,
     reset,
     run,
     rewrite,
+    rewrite_late,
     preview,
 };
 
@@ -82,6 +87,11 @@ pub fn run(file: &[u8], state: &mut [u8], inputs: &[u8], outputs: &mut [u8]) -> 
 #[cfg(feature = "rewrite")]
 pub fn rewrite(file: &[u8], out: &mut [u8]) -> Answer {
     answer(unsafe { punqelis_rewrite(file.as_ptr(), file.len(), out.as_mut_ptr(), out.len()) })
+}
+
+#[cfg(feature = "rewrite")]
+pub fn rewrite_late(file: &[u8], out: &mut [u8]) -> Answer {
+    answer(unsafe { punqelis_rewrite_late(file.as_ptr(), file.len(), out.as_mut_ptr(), out.len()) })
 }
 
 #[cfg(feature = "rewrite")]

@@ -3,7 +3,7 @@
 
 use crate::checks::checked;
 use crate::design::Design;
-use crate::format::{self, MAX_FILE};
+use crate::format;
 use crate::previewed::{previewed, Previewed};
 use crate::random::Entry;
 use crate::simulate::state_len;
@@ -44,11 +44,12 @@ impl Services {
         }
 
         let tables_end = format::tables_end(&checked.netlist);
-        let mut out = vec![0; MAX_FILE];
-        let rewritten = (self.rewrite)(&file, &mut out).map(|length| {
-            let kept = out[..tables_end] == file[..tables_end];
-            assert!(kept, "other tables: {}", hex(&file));
-            out[tables_end..length].to_vec()
+        let rewritten = self.in_both_modes(&file).map(|new| {
+            new.map(|new| {
+                let kept = new[..tables_end] == file[..tables_end];
+                assert!(kept, "other tables: {}", hex(&file));
+                new[tables_end..].to_vec()
+            })
         });
         let mut preview = previewed(self.preview, &file);
         if let Ok(previewed) = &mut preview {
@@ -66,8 +67,8 @@ impl Services {
 struct Shown {
     /// The answer, the state and the outputs, after the reset and after each entry.
     runs: Vec<(Answer, Vec<u8>, Vec<u8>)>,
-    /// The rewritten file from the end of its tables on.
-    rewritten: Result<Vec<u8>, Refusal>,
+    /// The rewritten file of either mode from the end of its tables on.
+    rewritten: [Result<Vec<u8>, Refusal>; 2],
     /// What the preview gives, the rewritten file's length counted from there.
     preview: Result<Previewed, Refusal>,
 }

@@ -13,6 +13,8 @@ pub struct Vector {
     pub file: Vec<u8>,
     /// The rewritten file, or the rewriter's refusal.
     pub rewritten: Result<Vec<u8>, Refusal>,
+    /// The late-started file, or the late start's refusal.
+    pub late: Result<Vec<u8>, Refusal>,
     /// What the preview gives, or its refusal.
     pub preview: Result<Previewed, Refusal>,
     /// Where the reader accepts the file: runs from reset.
@@ -45,7 +47,7 @@ impl Vector {
 pub fn file() -> PathBuf {
     match std::env::var_os("PUNQELIS_VECTORS") {
         Some(file) => PathBuf::from(file),
-        None => Path::new(env!("CARGO_MANIFEST_DIR")).join("../vectors/t03.txt"),
+        None => Path::new(env!("CARGO_MANIFEST_DIR")).join("../vectors/t05.txt"),
     }
 }
 
@@ -64,6 +66,7 @@ fn vector(case: &str) -> Vector {
     let name = lines.next().expect("a name").to_owned();
     let mut file = None;
     let mut rewritten = None;
+    let mut late = None;
     let mut preview = None;
     let mut by_source = None;
     let mut trace: Option<Trace> = None;
@@ -72,6 +75,7 @@ fn vector(case: &str) -> Vector {
         match words[..] {
             ["file", digits] => file = Some(hex(digits)),
             ["rewrite", ref given @ ..] => rewritten = Some(answer(given)),
+            ["late", ref given @ ..] => late = Some(answer(given)),
             ["preview", ref given @ ..] => preview = Some(given.to_vec()),
             ["by_source", digits] => by_source = Some(numbers(&hex(digits))),
             ["reset", digits] => {
@@ -94,6 +98,7 @@ fn vector(case: &str) -> Vector {
     Vector {
         file: file.expect("a file"),
         rewritten: rewritten.expect("what rewriting answers"),
+        late: late.expect("what the late start answers"),
         preview: previewed(&preview.expect("what the preview answers"), by_source),
         trace,
         name,

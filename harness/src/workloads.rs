@@ -2,30 +2,43 @@
 //! work longest.
 
 use crate::design::Design;
+use crate::format::MAX_FILE;
 use crate::netlist::{Kind, MAX_NODES};
-use crate::random::{sized_netlist, Random, Shape};
+use crate::random::{grown_from, sized_netlist, Random, Shape};
+use crate::OnBytes;
 
-/// 900 nodes of all kinds in random order, 16 tables of 1,024 words of 16 bits.
-pub fn typical() -> Design {
-    let shape = Shape {
+fn typical_shape() -> Shape {
+    Shape {
         nodes: 800,
         tables: vec![(10, 16); 16],
         filled: 0,
         inputs: 8,
         widths: vec![1, 10, 16],
         most_lead: 3,
+        most_late: 0,
         most_registers: 1,
         async_roms: 8,
         clocked_roms: 4,
         feedback: 5,
         registers: 5,
         sharing: 30,
-    };
-    // Some of these grow too large when they are rewritten: the first that does not.
-    let mut out = vec![0; crate::format::MAX_FILE];
-    let accepted = |design: &Design| crate::rewrite(&design.file(), &mut out).is_ok();
+        rings: 0,
+    }
+}
+
+/// 900 nodes of all kinds in random order, 16 tables of 1,024 words of 16 bits. Late-started it
+/// grows too large.
+pub fn typical() -> Design {
+    let shape = typical_shape();
+    first_accepted(crate::rewrite, |random| sized_netlist(random, &shape, 900))
+}
+
+/// The first netlist that does not grow too large when it is rewritten, as some do.
+fn first_accepted(rewrite: OnBytes, netlist: impl Fn(&mut Random) -> Design) -> Design {
+    let mut out = vec![0; MAX_FILE];
+    let accepted = |design: &Design| rewrite(&design.file(), &mut out).is_ok();
     (1..)
-        .map(|seed| sized_netlist(&mut Random::new(seed), &shape, 900))
+        .map(|seed| netlist(&mut Random::new(seed)))
         .find(accepted)
         .expect("some seed gives one")
 }
@@ -38,6 +51,61 @@ pub fn filled() -> Design {
         table.fill = Some(u16::from_be_bytes(words[700]));
         table.words.truncate(2 * 700);
     }
+    design
+}
+
+/// 700 nodes like those of [`typical`], which both modes accept.
+pub fn typical_for_both_modes() -> Design {
+    let shape = Shape {
+        nodes: 600,
+        ..typical_shape()
+    };
+    first_accepted(crate::rewrite_late, |random| {
+        sized_netlist(random, &shape, 700)
+    })
+}
+
+/// Nodes of all kinds with the same tables, many of which run late: the plain mode refuses it.
+/// Late-started it has nearly as many nodes as there can be.
+pub fn typical_late() -> Design {
+    let shape = Shape {
+        nodes: 450,
+        most_late: 2,
+        rings: 5,
+        ..typical_shape()
+    };
+    first_accepted(crate::rewrite_late, |random| {
+        grown_from(random, &shape, MAX_NODES)
+    })
+}
+
+/// As many sensors as there can be: a port, an asynchronous ROM, a gate, a register, a port. Each
+/// of them gets a gate that shows the register's reset word.
+pub fn sensors() -> Design {
+    let mut design = Design::default();
+    let table = successors(&mut design);
+    for reset in 0..170 {
+        let port = design.input(4);
+        let rom = design.async_rom(port, table);
+        let not = design.gate(Kind::Not, 4, &[rom]);
+        let register = design.register(not, reset % 16);
+        design.output(register);
+    }
+    design
+}
+
+/// A sensor with as many registers as there can be, each of which gets a gate, listed backwards.
+pub fn deep_sensor() -> Design {
+    let mut design = Design::default();
+    let table = successors(&mut design);
+    let port = design.input(4);
+    let rom = design.async_rom(port, table);
+    let mut last = design.gate(Kind::Not, 4, &[rom]);
+    for reset in 0..255 {
+        last = design.register(last, reset % 16);
+    }
+    design.output(last);
+    design.reverse();
     design
 }
 
@@ -191,6 +259,13 @@ pub fn closed_debt() -> Design {
     last = design.async_rom(last, table);
     design.connect(first, 0, last);
     design.reverse();
+    design
+}
+
+/// [`closed_debt`] before an output port, which the late start looks for.
+pub fn closed_debt_before_an_output() -> Design {
+    let mut design = closed_debt();
+    design.output(0);
     design
 }
 

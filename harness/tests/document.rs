@@ -14,6 +14,12 @@ const REWRITERS: &[OnBytes] = &[
     harness::product::rewrite,
 ];
 
+const LATE_STARTS: &[OnBytes] = &[
+    harness::rewrite_late,
+    #[cfg(feature = "rewrite")]
+    harness::product::rewrite_late,
+];
+
 const PREVIEWS: &[(&str, Preview)] = &[
     ("own", harness::preview),
     #[cfg(feature = "rewrite")]
@@ -28,9 +34,13 @@ const RUNS: &[(OnBytes, OneClock)] = &[
 
 const NO_INPUTS: &[u8] = &[];
 
-/// Rewrites the file by every rewriter; gives the new file, or the refusal.
 fn rewritten(file: &[u8]) -> Result<Vec<u8>, Refusal> {
-    let each = REWRITERS.iter().map(|rewrite| {
+    rewritten_by(REWRITERS, file)
+}
+
+/// Rewrites the file by each of them; gives the new file, or the refusal.
+fn rewritten_by(rewriters: &[OnBytes], file: &[u8]) -> Result<Vec<u8>, Refusal> {
+    let each = rewriters.iter().map(|rewrite| {
         let mut out = vec![0; 1_000];
         let length = rewrite(file, &mut out)?;
         Ok(out[..length].to_vec())
@@ -213,6 +223,12 @@ fn input_rom_not_register_output() {
     let register = design.register(not, 0);
     design.output(register);
     refused(&design, 12, 0);
+    // The late start accepts it.
+    let old = design.file();
+    let new = rewritten_by(LATE_STARTS, &old).expect("accepted");
+    for file in [old, new] {
+        outputs_are(&file, &[&[0, 0], &[0, 1], &[0, 1]], &[0, 0, 1]);
+    }
 }
 
 #[test]

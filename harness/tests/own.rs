@@ -1,6 +1,6 @@
 //! The harness against itself: random material is as varied as it should be, leads are what
-//! they are defined to be, previews tell what is in the rewritten files, old and rewritten
-//! netlists run alike, and so do tables with a fill word and the same tables spelled out.
+//! they are defined to be, previews tell what is in the rewritten files, and tables with a fill
+//! word run like the same tables spelled out.
 
 use std::hint::black_box;
 use std::mem::replace;
@@ -8,19 +8,24 @@ use std::mem::replace;
 use harness::checks::{checked, Checked};
 use harness::design::Design;
 use harness::format::{self, MAX_FILE};
-use harness::leads::{chains, leads};
+use harness::leads::{chains, timing, Timing};
 use harness::netlist::{Kind, Netlist, Node, MAX_NODES};
 use harness::previewed::{previewed, Previewed};
 use harness::random::{self, Entry, Random};
 use harness::refusal::{CLOSED_DEBT, GROWN, LOOP, PORT_DEBT, RING, SHORT, TABLE, TAG};
 use harness::rewrite::{retimed, Retimed};
-use harness::simulate::{inputs_len, outputs_len, reset_checked, run_checked, state_len};
 use harness::stack::stack_use;
 use harness::{workloads, Size, OWN};
 
 fn rewrite_refusal(file: &[u8]) -> Option<u16> {
     let mut out = vec![0; MAX_FILE];
     harness::rewrite(file, &mut out).err().map(|r| r.number)
+}
+
+fn late_refusal(file: &[u8]) -> Option<u16> {
+    let mut out = vec![0; MAX_FILE];
+    let answer = harness::rewrite_late(file, &mut out);
+    answer.err().map(|r| r.number)
 }
 
 #[test]
@@ -45,11 +50,12 @@ fn random_netlists_are_varied() {
         }
         match retimed(&checked) {
             Ok(Retimed {
-                leads,
+                timing,
                 netlist: new,
+                ..
             }) => {
                 accepted += 1;
-                early += usize::from(leads.iter().any(|&lead| lead >= 6));
+                early += usize::from(timing.leads.iter().any(|&lead| lead >= 6));
                 split += usize::from(roms(&new) > roms(netlist));
                 let chains = chains(&checked);
                 long += usize::from(chains.iter().any(|chain| chain.registers >= 20));
@@ -184,7 +190,10 @@ fn leads_are_the_largest_excess() {
         };
         compared += 1;
         let nodes = &checked.netlist.nodes;
-        match (largest_excess(&checked), leads(&checked, &chains(&checked))) {
+        match (
+            largest_excess(&checked),
+            timing(&checked, &chains(&checked)),
+        ) {
             (None, Err(refusal)) if refusal.number == CLOSED_DEBT => closed += 1,
             (Some(excess), Err(refusal)) if refusal.number == PORT_DEBT => {
                 port += 1;
@@ -192,10 +201,11 @@ fn leads_are_the_largest_excess() {
                 let lowest = (0..nodes.len()).find(has_debt);
                 assert_eq!(lowest, Some(usize::from(refusal.place)));
             }
-            (Some(excess), Ok(leads)) => {
+            (Some(excess), Ok(Timing { leads, stays })) => {
                 for (number, node) in nodes.iter().enumerate() {
-                    if node.kind != Kind::Register {
-                        assert_eq!(i32::from(leads[number]), excess[number], "node {number}");
+                    assert_eq!(stays[number], node.kind != Kind::Register, "node {number}");
+                    if stays[number] {
+                        assert_eq!(leads[number], excess[number], "node {number}");
                     }
                 }
             }
@@ -356,41 +366,6 @@ fn registers_by_source_and_by_reader() {
     assert!(accepted > 2_000 && in_rows > 500 && parallel > 500 && large > 100);
 }
 
-#[test]
-fn old_and_rewritten_run_alike() {
-    let mut random = Random::new(5);
-    let mut out = vec![0; MAX_FILE];
-    let mut clocks = 0;
-    for _ in 0..1_000 {
-        let old_file = random::netlist(&mut random).file();
-        let Ok(length) = harness::rewrite(&old_file, &mut out) else {
-            continue;
-        };
-        let old = checked(&old_file).expect("checked before");
-        let new = checked(&out[..length]).expect("a rewritten file passes the reader");
-        assert!(new.netlist.nodes.iter().all(|n| n.kind != Kind::AsyncRom));
-        let mut old_state = vec![0; state_len(&old)];
-        let mut new_state = vec![0; state_len(&new)];
-        reset_checked(&old, &mut old_state).expect("the length is right");
-        reset_checked(&new, &mut new_state).expect("the length is right");
-        let mut old_outputs = vec![0; outputs_len(&old)];
-        let mut new_outputs = old_outputs.clone();
-        for _ in 0..60 {
-            let inputs = random::inputs(&mut random, &old.netlist);
-            assert_eq!(inputs.len(), inputs_len(&new));
-            let answer = run_checked(&old, &mut old_state, &inputs, &mut old_outputs);
-            assert_eq!(answer, Ok(old_outputs.len()));
-            assert_eq!(
-                run_checked(&new, &mut new_state, &inputs, &mut new_outputs),
-                answer
-            );
-            assert!(old_outputs == new_outputs, "{}", harness::hex(&old_file));
-            clocks += 1;
-        }
-    }
-    println!("{clocks} clocks compared");
-}
-
 /// Netlists whose tables have fill words against those with the tables spelled out.
 #[test]
 fn filled_and_spelled_out_are_alike() {
@@ -423,6 +398,9 @@ fn workloads_are_what_they_say() {
     for table in &filled.tables {
         assert_eq!((table.address_bits, table.width), (10, 16));
         assert!(table.fill.is_some() && table.words.len() == 2 * 700);
+    }
+    for design in [&typical, &filled] {
+        assert_eq!(late_refusal(&design.file()), Some(GROWN));
     }
     let accepted: [(Design, usize); 7] = [
         (typical, 900),
@@ -463,4 +441,27 @@ fn workloads_are_what_they_say() {
             Ok(nodes)
         );
     }
+}
+
+#[test]
+fn late_workloads_are_what_they_say() {
+    let both = workloads::typical_for_both_modes();
+    assert_eq!(both.nodes.len(), 700);
+    assert_eq!(rewrite_refusal(&both.file()), None);
+    assert_eq!(late_refusal(&both.file()), None);
+    for (design, nodes) in [
+        (workloads::typical_late(), 1_006),
+        (workloads::sensors(), 1_022),
+        (workloads::deep_sensor(), 1_024),
+    ] {
+        let file = design.file();
+        assert_eq!(rewrite_refusal(&file), Some(PORT_DEBT));
+        let checked = checked(&file).expect("it passes the reader");
+        let Ok(Retimed { netlist, .. }) = harness::late::retimed(&checked) else {
+            panic!("refused");
+        };
+        assert_eq!(netlist.nodes.len(), nodes);
+    }
+    let closed_debt = workloads::closed_debt_before_an_output();
+    assert_eq!(late_refusal(&closed_debt.file()), Some(CLOSED_DEBT));
 }

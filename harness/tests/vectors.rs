@@ -4,8 +4,8 @@ use harness::checks::checked;
 use harness::format::MAX_FILE;
 use harness::previewed::compare_preview;
 use harness::simulate::{outputs_len, state_len};
-use harness::vectors::{self, Run};
-use harness::{Check, OnBytes, OneClock, Preview};
+use harness::vectors::{self, Run, Vector};
+use harness::{Check, OnBytes, OneClock, Preview, Refusal};
 
 #[cfg(feature = "check")]
 use harness::product;
@@ -22,7 +22,12 @@ fn own_run() {
 
 #[test]
 fn own_rewrite() {
-    rewrite(harness::rewrite);
+    rewrite(harness::rewrite, |vector| &vector.rewritten);
+}
+
+#[test]
+fn own_rewrite_late() {
+    rewrite(harness::rewrite_late, |vector| &vector.late);
 }
 
 #[test]
@@ -45,7 +50,13 @@ fn product_run() {
 #[test]
 #[cfg(feature = "rewrite")]
 fn product_rewrite() {
-    rewrite(product::rewrite);
+    rewrite(product::rewrite, |vector| &vector.rewritten);
+}
+
+#[test]
+#[cfg(feature = "rewrite")]
+fn product_rewrite_late() {
+    rewrite(product::rewrite_late, |vector| &vector.late);
 }
 
 #[test]
@@ -117,19 +128,20 @@ fn run(reset: OnBytes, run: OneClock) {
     assert!(clocks > 0);
 }
 
-fn rewrite(rewrite: OnBytes) {
+/// Either mode, held to what the vectors have for it.
+fn rewrite(rewrite: OnBytes, new: fn(&Vector) -> &Result<Vec<u8>, Refusal>) {
     let vectors = vectors::all();
     let mut accepted = 0;
     for vector in &vectors {
         let mut out = vec![0xa5; MAX_FILE];
         let mut expected = out.clone();
-        if let Ok(rewritten) = &vector.rewritten {
+        if let Ok(rewritten) = new(vector) {
             expected[..rewritten.len()].copy_from_slice(rewritten);
             accepted += 1;
         }
         let answer = rewrite(&vector.file, &mut out);
-        let lengths = vector.rewritten.as_ref().map(Vec::len);
-        assert_eq!(answer, lengths.map_err(|r| *r), "{}", vector.name);
+        let length = new(vector).as_ref().map(Vec::len);
+        assert_eq!(answer, length.map_err(|r| *r), "{}", vector.name);
         assert!(out == expected, "{}: other bytes", vector.name);
     }
     println!("{} files rewritten, {accepted} accepted", vectors.len());

@@ -11,8 +11,8 @@ mod tables;
 pub use changed_tables::changed_table;
 pub use damage::{damaged, rewired};
 pub use entries::{inputs, other_length, other_number, widen, Entry};
-pub use netlists::{filled_netlist, netlist, sized_netlist, Shape};
-pub use refused::{closed_debt, grown, port_debt};
+pub use netlists::{filled_netlist, grown_from, late_netlist, netlist, sized_netlist, Shape};
+pub use refused::{closed_debt, grown, grown_late, port_debt};
 
 /// A small generator of random numbers (SplitMix64): the same seed gives the same numbers.
 pub struct Random(u64);

@@ -2,11 +2,13 @@
 //!
 //! Each node gets a planned lead, and each wire as many registers as the plan asks for. The
 //! leads are then at most the planned ones, so there is no debt; they reach them where ROMs
-//! follow each other without registers between.
+//! follow each other without registers between. Where planned leads are below 0, all this is so in
+//! the late start: in the plain mode there may be debts.
 
 use super::tables::{table, FILLED};
 use super::Random;
 use crate::design::Design;
+use crate::leads::taken;
 use crate::netlist::{Kind, MAX_NODES};
 
 /// What a netlist is to look like. Chances are in percent.
@@ -23,6 +25,8 @@ pub struct Shape {
     pub widths: Vec<u8>,
     /// The largest planned lead.
     pub most_lead: usize,
+    /// How far below 0 a planned lead may be.
+    pub most_late: usize,
     /// How many registers a wire may have beyond those that the plan asks for.
     pub most_registers: usize,
     pub async_roms: usize,
@@ -33,6 +37,8 @@ pub struct Shape {
     pub registers: usize,
     /// How often a wire goes through a register that is there already.
     pub sharing: usize,
+    /// How often a node that nothing reads gets a ring that reads it, and no output port.
+    pub rings: usize,
 }
 
 impl Shape {
@@ -60,13 +66,25 @@ impl Shape {
             inputs: random.pick(&[0, 1, 2, 2, 5]),
             widths,
             most_lead: random.pick(&[0, 1, 2, 4, 8, 12]),
+            most_late: 0,
             most_registers: random.pick(&[1, 1, 2, 5, 30]),
             async_roms: random.pick(&[10, 25, 50, 70]),
             clocked_roms: random.pick(&[0, 10, 20]),
             feedback: random.pick(&[0, 5, 20]),
             registers: random.pick(&[0, 10, 30]),
             sharing: random.pick(&[0, 50, 100]),
+            rings: 0,
         }
+    }
+
+    /// A shape for the late start: nodes that run late, and some that reach no output port.
+    pub fn late(random: &mut Random) -> Self {
+        let mut shape = Shape::random(random);
+        shape.inputs = random.pick(&[1, 1, 2, 2, 5]);
+        shape.most_late = random.pick(&[1, 1, 2, 4, 8]);
+        shape.clocked_roms = random.pick(&[5, 20, 40]);
+        shape.rings = random.pick(&[0, 0, 0, 10, 20, 50, 100]);
+        shape
     }
 }
 
@@ -78,6 +96,12 @@ pub fn netlist(random: &mut Random) -> Design {
         shape.most_registers = 1;
         return sized_netlist(random, &shape, MAX_NODES);
     }
+    grown_from(random, &shape, MAX_NODES)
+}
+
+/// A random netlist for the late start, which accepts it unless it grows too large.
+pub fn late_netlist(random: &mut Random) -> Design {
+    let shape = Shape::late(random);
     grown_from(random, &shape, MAX_NODES)
 }
 
@@ -108,7 +132,7 @@ pub fn sized_netlist(random: &mut Random, shape: &Shape, nodes: usize) -> Design
 }
 
 /// A netlist of at most so many nodes: one that turns out too large is made again, smaller.
-fn grown_from(random: &mut Random, shape: &Shape, most: usize) -> Design {
+pub fn grown_from(random: &mut Random, shape: &Shape, most: usize) -> Design {
     let mut shape = shape.clone();
     loop {
         let mut design = Grower::new(random, &shape).grow();
@@ -138,13 +162,13 @@ struct Grower<'g> {
     shape: &'g Shape,
     design: Design,
     /// The planned lead of each node that is no register.
-    planned: Vec<usize>,
+    planned: Vec<i32>,
     /// The nodes of each width that are no registers and no outputs.
     of_width: [Vec<u16>; 17],
     /// The registers that read each node.
     taps: Vec<Vec<u16>>,
     /// Registers without source, with the planned lead of their reader.
-    loose: Vec<(u16, usize)>,
+    loose: Vec<(u16, i32)>,
 }
 
 /// Where an operand comes from.
@@ -231,7 +255,10 @@ impl<'g> Grower<'g> {
         let (width, _) = tables[table];
         let roms = self.random.between(1, self.shape.most_lead + 1);
         let origin = [self.origin(width)];
-        let mut planned = roms + self.random.below(2);
+        let mut planned = (roms + self.random.below(2)) as i32;
+        if self.shape.most_late > 0 {
+            planned -= self.random.between(0, self.shape.most_late) as i32;
+        }
         let mut last = self.wires(&origin, planned)[0];
         for _ in 0..roms {
             last = self.design.async_rom(last, table as u8);
@@ -280,7 +307,7 @@ impl<'g> Grower<'g> {
         self.added(number, planned);
     }
 
-    fn added(&mut self, number: u16, planned: usize) -> u16 {
+    fn added(&mut self, number: u16, planned: i32) -> u16 {
         self.planned.resize(self.design.nodes.len(), 0);
         self.taps.resize_with(self.design.nodes.len(), Vec::new);
         self.planned[usize::from(number)] = planned;
@@ -305,8 +332,7 @@ impl<'g> Grower<'g> {
             return match wider {
                 Some(wider) if self.random.chance(60) => {
                     let source = self.of_width(wider);
-                    let planned = self.planned[usize::from(source)];
-                    let planned = planned.saturating_sub(self.is_async_rom(source));
+                    let planned = self.without_registers(source);
                     let source = self.wire(source, planned);
                     let number = self.design.part(source, wider - width, width);
                     self.added(number, planned)
@@ -314,7 +340,7 @@ impl<'g> Grower<'g> {
                 _ if self.random.chance(50) => self.input(width),
                 _ => {
                     let value = self.random.word(width);
-                    let planned = self.random.between(0, self.shape.most_lead);
+                    let planned = self.any_lead();
                     let number = self.design.constant(width, value);
                     self.added(number, planned)
                 }
@@ -327,25 +353,40 @@ impl<'g> Grower<'g> {
         }
     }
 
-    fn is_async_rom(&self, number: u16) -> usize {
-        usize::from(self.design.kind(number) == Kind::AsyncRom)
+    fn any_lead(&mut self) -> i32 {
+        let Shape {
+            most_lead,
+            most_late,
+            ..
+        } = *self.shape;
+        self.random.between(0, most_late + most_lead) as i32 - most_late as i32
+    }
+
+    /// The largest planned lead with which a reader of the node needs no registers.
+    fn without_registers(&self, number: u16) -> i32 {
+        let lead = self.planned[usize::from(number)] - taken(self.design.kind(number));
+        lead.max(-(self.shape.most_late as i32))
+    }
+
+    /// How many registers the plan asks for between a source and a reader.
+    fn asked(&self, source: u16, planned: i32) -> usize {
+        let asked = planned + taken(self.design.kind(source));
+        (asked - self.planned[usize::from(source)]).max(0) as usize
     }
 
     /// A planned lead: often the largest that needs no registers.
-    fn plan(&mut self, origins: &[Origin]) -> usize {
+    fn plan(&mut self, origins: &[Origin]) -> i32 {
         let without = origins.iter().filter_map(|origin| match *origin {
-            Origin::Node(u) => {
-                Some(self.planned[usize::from(u)].saturating_sub(self.is_async_rom(u)))
-            }
+            Origin::Node(source) => Some(self.without_registers(source)),
             Origin::Later(_) => None,
         });
         match without.min() {
             Some(lead) if self.random.chance(75) => lead,
-            _ => self.random.between(0, self.shape.most_lead),
+            _ => self.any_lead(),
         }
     }
 
-    fn wires(&mut self, origins: &[Origin], planned: usize) -> Vec<u16> {
+    fn wires(&mut self, origins: &[Origin], planned: i32) -> Vec<u16> {
         let wire = |origin: &Origin| match *origin {
             Origin::Node(source) => self.wire(source, planned),
             Origin::Later(width) => {
@@ -359,9 +400,8 @@ impl<'g> Grower<'g> {
     }
 
     /// What a reader with the planned lead reads in order to get the source's words.
-    fn wire(&mut self, source: u16, planned: usize) -> u16 {
-        let asked = planned + self.is_async_rom(source);
-        let mut registers = asked.saturating_sub(self.planned[usize::from(source)]);
+    fn wire(&mut self, source: u16, planned: i32) -> u16 {
+        let mut registers = self.asked(source, planned);
         if self.random.chance(self.shape.registers) {
             registers += self.random.between(1, self.shape.most_registers);
         }
@@ -387,19 +427,38 @@ impl<'g> Grower<'g> {
     }
 
     /// Gives a loose register its source.
-    fn close(&mut self, register: u16, planned: usize) {
+    fn close(&mut self, register: u16, planned: i32) {
         let source = self.of_width(self.design.width(register));
-        let asked = planned + self.is_async_rom(source);
-        let registers = asked.saturating_sub(self.planned[usize::from(source)]);
+        let registers = self.asked(source, planned);
         let source = self.delayed(source, registers.saturating_sub(1));
         self.design.connect(register, 0, source);
     }
 
-    /// Gives an output port to every node that nothing reads.
+    /// Gives an output port, or a ring, to every node that nothing reads.
     fn read_all(&mut self) {
+        let rings = self.shape.rings;
         for number in self.design.unread() {
-            let source = self.wire(number, 0);
-            self.design.output(source);
+            if rings > 0 && self.random.chance(rings) {
+                self.ring(number);
+            } else {
+                let source = self.wire(number, 0);
+                self.design.output(source);
+            }
         }
+    }
+
+    /// Lets a ring read the node that reaches no output port. Its debts, to the node and around it,
+    /// are the plain mode's alone.
+    fn ring(&mut self, number: u16) {
+        let width = self.design.width(number);
+        let register = self.design.loose_register(width, self.random.word(width));
+        let mut last = self.design.gate(Kind::Xor, width, &[number, register]);
+        let tables = &self.shape.tables;
+        if let Some(table) = tables.iter().position(|&table| table == (width, width)) {
+            for _ in 0..self.random.below(3) {
+                last = self.design.async_rom(last, table as u8);
+            }
+        }
+        self.design.connect(register, 0, last);
     }
 }

@@ -105,6 +105,48 @@ pub fn grown(random: &mut Random) -> (Design, usize) {
     (design, nodes)
 }
 
+/// A netlist whose late-started one has about 1,024 nodes, likewise: behind a sensor's ROM and gate
+/// stands a shift register with an output port at each of several registers. On each of these wires
+/// there is a gate with its constant for every old register, and a new register for all but those
+/// up to the first port.
+pub fn grown_late(random: &mut Random) -> (Design, usize) {
+    let nodes = match random.chance(60) {
+        true => random.between(MAX_NODES - 2, MAX_NODES + 2),
+        false => random.between(MAX_NODES - 200, MAX_NODES + 3_000),
+    };
+    let mut design = Design::default();
+    let width = random.between(1, 6) as u8;
+    let table = table(random, &mut design, width, width, FILLED);
+    let port = design.input(width);
+    let rom = design.async_rom(port, table);
+    let mut taps = vec![design.gate(Kind::Not, width, &[rom])];
+    let first = random.between(1, 5);
+    let last = random.between(20, 80);
+    for _ in 0..last {
+        let reset = random.word(width);
+        taps.push(design.register(taps[taps.len() - 1], reset));
+    }
+    // The ROM runs a clock earlier than the gate, which is late by the first port's registers.
+    let before = first - 1;
+    let mut left = nodes - (3 + before) - (1 + last);
+    let grown = |tap: usize| 1 + (tap - first) + 2 * tap;
+    for tap in [first, last] {
+        design.output(taps[tap]);
+        left -= grown(tap);
+    }
+    while left >= grown(first) {
+        let fits = (first..=last).take_while(|&tap| grown(tap) <= left).count();
+        let tap = first + random.below(fits);
+        design.output(taps[tap]);
+        left -= grown(tap);
+    }
+    for _ in 0..left {
+        design.input(width);
+    }
+    list(random, &mut design);
+    (design, nodes)
+}
+
 /// Adds an asynchronous ROM read by registers of different reset words, each of which becomes
 /// a clocked ROM with the registers of the ROM's own wire. Gives how many nodes these become.
 fn split(random: &mut Random, design: &mut Design) -> usize {

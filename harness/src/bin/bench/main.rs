@@ -22,7 +22,7 @@ use harness::{
 };
 
 #[cfg(feature = "rewrite")]
-use harness::{format::MAX_FILE, preview::MAX_LIST};
+use harness::{format::MAX_FILE, preview::MAX_LIST, OnBytes};
 
 fn main() {
     services("16 tables of 1,024 words of 16 bits", workloads::typical());
@@ -30,12 +30,19 @@ fn main() {
         "16 tables of 700 words of 16 bits and a fill word",
         workloads::filled(),
     );
+    #[cfg(feature = "rewrite")]
+    services(
+        "16 tables of 1,024 words of 16 bits, accepted by both modes",
+        workloads::typical_for_both_modes(),
+    );
     #[cfg(feature = "run")]
     growth();
     #[cfg(feature = "rewrite")]
     stages::stages(&workloads::typical());
     #[cfg(feature = "rewrite")]
     rewriting();
+    #[cfg(feature = "rewrite")]
+    late_starting();
     #[cfg(feature = "rewrite")]
     previewing();
     refused();
@@ -80,13 +87,31 @@ fn compare_run(file: &[u8]) -> Comparison {
 
 #[cfg(feature = "rewrite")]
 fn compare_rewrite(file: &[u8]) -> Comparison {
+    compare_mode(file, product::rewrite, harness::rewrite)
+}
+
+#[cfg(feature = "rewrite")]
+fn compare_late(file: &[u8]) -> Comparison {
+    compare_mode(file, product::rewrite_late, harness::rewrite_late)
+}
+
+/// With the number beside the name where it is refused.
+#[cfg(feature = "rewrite")]
+fn print_late(name: &str, file: &[u8]) {
+    let refusal = harness::rewrite_late(file, &mut vec![0; MAX_FILE]).err();
+    let number = refusal.map_or(String::new(), |refusal| format!(" ({})", refusal.number));
+    compare_late(file).print(&format!("{name}{number}"));
+}
+
+#[cfg(feature = "rewrite")]
+fn compare_mode(file: &[u8], product: OnBytes, harness: OnBytes) -> Comparison {
     let mut own = vec![0; MAX_FILE];
     let mut other = own.clone();
-    let answer = harness::rewrite(file, &mut own);
-    assert_eq!(product::rewrite(file, &mut other), answer);
+    let answer = harness(file, &mut own);
+    assert_eq!(product(file, &mut other), answer);
     assert!(own == other, "the product rewrites to other bytes");
-    let product = || _ = black_box(product::rewrite(black_box(file), &mut other));
-    let harness = || _ = black_box(harness::rewrite(black_box(file), &mut own));
+    let product = || _ = black_box(product(black_box(file), &mut other));
+    let harness = || _ = black_box(harness(black_box(file), &mut own));
     compare(product, harness)
 }
 
@@ -134,6 +159,8 @@ fn services(tables: &str, design: Design) {
     #[cfg(feature = "rewrite")]
     compare_rewrite(&file).print("rewrite");
     #[cfg(feature = "rewrite")]
+    print_late("late start", &file);
+    #[cfg(feature = "rewrite")]
     print_preview("preview", &file);
 }
 
@@ -169,16 +196,34 @@ fn rewriting_cases() -> [(&'static str, Design); 7] {
         ),
         ("largest leads", workloads::largest_leads()),
         ("ring of ROMs and registers", workloads::large_ring()),
-        ("closed debt (11)", workloads::closed_debt()),
+        ("closed debt", workloads::closed_debt()),
     ]
 }
 
 #[cfg(feature = "rewrite")]
 fn rewriting() {
-    println!("rewriting, worst cases");
+    println!("rewriting, worst cases (a closed debt is 11)");
     for (name, design) in rewriting_cases() {
         compare_rewrite(&design.file()).print(name);
     }
+}
+
+#[cfg(feature = "rewrite")]
+fn late_starting() {
+    println!("late start, many late wires");
+    for (name, design) in [
+        ("all kinds of nodes", workloads::typical_late()),
+        ("sensors", workloads::sensors()),
+        ("deep sensor", workloads::deep_sensor()),
+    ] {
+        print_late(name, &design.file());
+    }
+    println!("late start, worst cases");
+    for (name, design) in rewriting_cases() {
+        print_late(name, &design.file());
+    }
+    let closed_debt = workloads::closed_debt_before_an_output();
+    print_late("closed debt before an output", &closed_debt.file());
 }
 
 #[cfg(feature = "rewrite")]

@@ -67,6 +67,11 @@ pub fn stack(refused: impl Iterator<Item = Vec<u8>>) {
         workloads::long_relaxation(),
         workloads::largest_leads(),
         workloads::closed_debt(),
+        workloads::typical_for_both_modes(),
+        workloads::typical_late(),
+        workloads::sensors(),
+        workloads::deep_sensor(),
+        workloads::closed_debt_before_an_output(),
     ];
     let files = designs.iter().map(Design::file).chain(refused);
     let mut lent: Vec<Lent> = files.map(Lent::new).collect();
@@ -101,6 +106,12 @@ pub fn stack(refused: impl Iterator<Item = Vec<u8>>) {
         "rewrite",
         |l| product::rewrite(&l.file, &mut l.out),
         |l| harness::rewrite(&l.file, &mut l.out),
+    );
+    #[cfg(feature = "rewrite")]
+    print(
+        "late start",
+        |l| product::rewrite_late(&l.file, &mut l.out),
+        |l| harness::rewrite_late(&l.file, &mut l.out),
     );
     #[cfg(feature = "rewrite")]
     print(
