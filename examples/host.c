@@ -1,4 +1,5 @@
-/* Previews and rewrites a small netlist with an asynchronous ROM into one with a clocked ROM, and runs both side by side for five clocks. */
+/* Previews and rewrites a small netlist with an asynchronous ROM into one with a clocked ROM, and runs both side by side for five clocks;
+ * then does so with a ROM straight behind a sensor's port, which only the late start accepts. */
 #include <stdio.h>
 #include <string.h>
 
@@ -27,6 +28,18 @@ static const uint8_t expected_file[] = {
     0x04, 0x00, 0x00                                            /* end */
 };
 
+/* A two-bit sensor, an asynchronous ROM straight behind its port, a gate, a register (reset 2). */
+static const uint8_t sensor_file[] = {
+    0x01, 0x00, 0x01, 0x01,                                     /* head */
+    0x02, 0x00, 0x0A, 0x02, 0x02, 0, 3, 0, 1, 0, 2, 0, 2,       /* table 0 */
+    0x03, 0x00, 0x02, 0x00, 0x02,                               /* 0 input */
+    0x03, 0x00, 0x05, 0x03, 0x02, 0x00, 0x00, 0x00,             /* 1 asynchronous ROM of 0 */
+    0x03, 0x00, 0x05, 0x05, 0x02, 0x01, 0x00, 0x01,             /* 2 not of 1 */
+    0x03, 0x00, 0x06, 0x02, 0x02, 0x00, 0x02, 0x00, 0x02,       /* 3 register of 2, reset 2 */
+    0x03, 0x00, 0x04, 0x01, 0x02, 0x00, 0x03,                   /* 4 output of 3 */
+    0x04, 0x00, 0x00                                            /* end */
+};
+
 /* Prints a refusal, and tells whether there is one. */
 static int refused(const char *call, uint32_t answer)
 {
@@ -34,6 +47,48 @@ static int refused(const char *call, uint32_t answer)
         printf("%s: refused %u %u\n", call, (unsigned)PUNQELIS_REFUSAL(answer),
                (unsigned)PUNQELIS_PLACE(answer));
         return 1;
+    }
+    return 0;
+}
+
+/* The sensor: the plain mode refuses it, late-started it runs like the old file. Tells whether
+ * something is not as it should be. */
+static int sensor(void)
+{
+    static const uint8_t readings[] = {1, 0, 3, 2, 1};
+    static const unsigned expected[] = {2, 2, 0, 1, 1};
+    static uint8_t new_file[PUNQELIS_MAX_FILE];
+    uint8_t old_state[2]; /* the register */
+    uint8_t new_state[4]; /* the clocked ROM, and the register that steers the gate */
+    uint32_t new_len = punqelis_rewrite(sensor_file, sizeof sensor_file, new_file, sizeof new_file);
+    size_t clock;
+
+    if (!refused("rewrite", new_len) || PUNQELIS_REFUSAL(new_len) != 12)
+        return 1;
+    new_len = punqelis_rewrite_late(sensor_file, sizeof sensor_file, new_file, sizeof new_file);
+    if (refused("late start", new_len)
+        || refused("check", punqelis_check(new_file, new_len))
+        || refused("reset", punqelis_reset(sensor_file, sizeof sensor_file,
+                                           old_state, sizeof old_state))
+        || refused("reset", punqelis_reset(new_file, new_len, new_state, sizeof new_state)))
+        return 1;
+    printf("late start: %u bytes into %u\n", (unsigned)sizeof sensor_file, (unsigned)new_len);
+
+    for (clock = 0; clock < sizeof readings; clock++) {
+        const uint8_t inputs[2] = {0, readings[clock]};
+        uint8_t old_out[2] = {0, 0}, new_out[2] = {0, 0};
+
+        if (refused("run", punqelis_run(sensor_file, sizeof sensor_file, old_state, sizeof old_state,
+                                        inputs, sizeof inputs, old_out, sizeof old_out))
+            || refused("run", punqelis_run(new_file, new_len, new_state, sizeof new_state,
+                                           inputs, sizeof inputs, new_out, sizeof new_out)))
+            return 1;
+        printf("sensor, clock %u: old %u, new %u\n", (unsigned)clock, (unsigned)old_out[1],
+               (unsigned)new_out[1]);
+        if (memcmp(old_out, new_out, sizeof old_out) != 0 || old_out[1] != expected[clock]) {
+            printf("expected %u\n", expected[clock]);
+            return 1;
+        }
     }
     return 0;
 }
@@ -109,5 +164,5 @@ int main(void)
             return 1;
         }
     }
-    return 0;
+    return sensor();
 }

@@ -89,6 +89,21 @@ uint32_t punqelis_run(const uint8_t *file, size_t file_len,
 uint32_t punqelis_rewrite(const uint8_t *file, size_t file_len,
                           uint8_t *out, size_t out_len);
 
+/* Rewrites a file by the late start: like punqelis_rewrite, and with answers of the same kind, but
+ * nodes may run late as well as early, as long as registers stand between them and the output
+ * ports. Choose punqelis_rewrite where it accepts the file; choose the late start where 12 comes
+ * from it because a ROM stands straight behind a sensor's port, with a gate before the register.
+ * What is said there of out and of the new file holds here too. On a wire whose words come late the
+ * new file shows the old reset words by choose gates: for each of them it has a constant and a gate
+ * more, and once a chain of one-bit registers, filled with 1 from a constant, that steers the
+ * gates. These nodes stand behind all others. Nodes from which no output port can be reached are
+ * left out, ports excepted; tables stay.
+ * 11 counts only loops that can reach an output port, 12 only walks from an input port to an
+ * output port. 13 counts the added nodes, so that it can come here where punqelis_rewrite accepts
+ * the file; 11 and 12 cannot. The preview is of punqelis_rewrite alone. */
+uint32_t punqelis_rewrite_late(const uint8_t *file, size_t file_len,
+                               uint8_t *out, size_t out_len);
+
 /* How large a rewritten file is. Beside a refusal the numbers after answer are 0. */
 struct punqelis_size {
     uint32_t answer;       /* the rewritten file's length, or the refusal */
