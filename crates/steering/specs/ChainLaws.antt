@@ -62,7 +62,8 @@ module _ {N : Net} {f : Timing} {leads roots passes : List ℕ} (t : Ready N f l
   unfolding shownFrom ownHere
   shown-read l =
       let own : one (isClocked (elementAt N u)) ≡ one (isClocked (elementAt N (root N s))) = ap (λ (v : ℕ). one (isClocked (elementAt N v))) (is-root t h e) in
-      omega (arith, t .traced s h .through, own, t .leads-in x k) ∙ sym (rw (lt-ltb (f .lead (root N s)) (f .origin) (omega (arith, lead-root))))
+      let same : (getD passes s 0 + one (isClocked (elementAt N u))) - (getD leads x 0 - o) ≡ (passed N s + ownHere N (root N s)) - (f .lead x - f .origin) = omega (arith, t .traced s h .through, own, t .leads-in x k) in
+      same ∙ sym (rw (lt-ltb (f .lead (root N s)) (f .origin) (omega (arith, lead-root))))
 
   pub shown-few : (getD passes s 0 + one (isClocked (elementAt N u))) - (getD leads x 0 - o) ≤ 1025
   shown-few = omega (arith, passed-small t h e, one-few (isClocked (elementAt N u)))
@@ -75,7 +76,9 @@ module _ (N : Net) (f : Timing) (x s : ℕ) {shown : ℕ} (e : shown ≡ shownFr
 
   pub steers-read : (shown ≡ 0 → ⊥) → {o l : ℕ} → o ≡ f .origin → l ≡ f .lead x → (o - l) + shown ≡ steersFrom N f x s
   unfolding steersFrom
-  steers-read z oe le = omega arith ∙ sym (rw (lt-ltb 0 (shownFrom N f x s) (some (shownFrom N f x s) (λ q. z (e ∙ q)))))
+  steers-read z {o} {l} oe le =
+      let same : (o - l) + shown ≡ (f .origin - f .lead x) + shownFrom N f x s = omega arith in
+      same ∙ sym (ap (λ (b : Bool). cond b ((f .origin - f .lead x) + shownFrom N f x s) 0) (lt-ltb 0 (shownFrom N f x s) (some (shownFrom N f x s) (λ q. z (e ∙ q)))))
     where
       some : (n : ℕ) → (n ≡ 0 → ⊥) → 0 < n
       some zero q = absurd (q refl)

@@ -6,8 +6,11 @@ use Prim.Native.Nat.{ℕ, suc, _+_, _*_, _≤_, _<_}
 use native.Mathlib.Nat.{not-suc-le-zero}
 use native.Mathlib.Omega.{arith}
 use lib.ListN.{length, getD, set, length-set}
-use lib.Seq.{getD-set-same, getD-set-other}
+use lib.Seq.{getD-set-same, getD-set-other, set-out}
 use Rattle.lists.specs.BelowLaws.{lt-suc-split}
+use Rattle.lists.specs.Sections.{section-length}
+use Rattle.plan.specs.Areas.{ownersIn, wordsIn, lateIn, sourcesIn}
+use Rattle.plan.specs.RegistersPut.{RegisterPut, source-put}
 use Rattle.steering.specs.GatesTo.{gateAfter, PutsPairs}
 
 -- two places next to each other are put
@@ -109,3 +112,49 @@ module _ {s head clock steer count start : ℕ} {owners late sources : List ℕ}
       late-after = λ i l. late-same i (λ e. omega arith) (λ e. omega arith) ∙ t .late-after i (omega arith);
       sources-before = λ i l. sources-same i (omega arith) ∙ t .sources-before i l;
     }
+
+-- ---- in the plan's area
+
+-- two registers are put where the constant and its gate stand, and then what else the gate reads
+module _ (l m n : List ℕ) {r s clock steer : ℕ} (long : length l ≡ 7168) (p : RegisterPut l m r s clock 0) (q : RegisterPut m n (r + 1) s 65535 steer) where
+  owners-two : ownersIn n ≡ twoPut (ownersIn l) r s s
+  owners-two = q .0 ∙ ap (λ (y : List ℕ). set y (r + 1) s) (p .0)
+
+  late-two : lateIn n ≡ twoPut (lateIn l) r clock 65535
+  late-two = q .1 ∙ ap (λ (y : List ℕ). set y (r + 1) 65535) (p .1)
+
+  sources-two : sourcesIn n ≡ set (set (sourcesIn l) (3 * r) 0) (3 * (r + 1)) steer
+  sources-two = q .2 ∙ ap (λ (y : List ℕ). set y (3 * (r + 1)) steer) (p .2)
+
+  abbrev PairPut : List ℕ → ℕ → Type 0
+  PairPut k next = (ownersIn k ≡ twoPut (ownersIn l) r s s) × (lateIn k ≡ twoPut (lateIn l) r clock 65535) × (sourcesIn k ≡ gatePut (sourcesIn l) r steer next) × (wordsIn k ≡ wordsIn l)
+
+  pub pair-room : (k k′ : List ℕ) {next : ℕ} → r + 1 < 1024 → k ≡ set n (4096 + (3 * (r + 1) + 1)) next → k′ ≡ set k (4096 + (3 * (r + 1) + 2)) r → PairPut k′ next
+  pair-room k k′ {next} h a b =
+      let y = source-put n k (3 * (r + 1) + 1) next (omega arith) a in
+      let z = source-put k k′ (3 * (r + 1) + 2) r (omega arith) b in (
+        z .1 ∙ y .1 ∙ owners-two,
+        z .3 ∙ y .3 ∙ late-two,
+        z .0 ∙ ap (λ (w : List ℕ). set w (3 * (r + 1) + 2) r) (y .0 ∙ ap (λ (w : List ℕ). set w (3 * (r + 1) + 1) next) sources-two),
+        z .2 ∙ y .2 ∙ q .3 ∙ p .3,
+      )
+
+  -- there is no room for the gate
+  pub pair-full : {next : ℕ} → 1024 ≤ r + 1 → PairPut n next
+  pair-full {next} h =
+      let one : List ℕ = set (sourcesIn l) (3 * r) 0 in
+      let two : List ℕ = set one (3 * (r + 1)) steer in
+      let a : length two ≡ 3072 = length-set one (3 * (r + 1)) steer ∙ length-set (sourcesIn l) (3 * r) 0 ∙ section-length 4096 3072 l (omega arith) in (
+        owners-two,
+        late-two,
+        sources-two ∙ sym (ap (λ (w : List ℕ). set w (3 * (r + 1) + 2) r) (set-out two (3 * (r + 1) + 1) next (omega arith)) ∙ set-out two (3 * (r + 1) + 2) r (omega arith)),
+        q .3 ∙ p .3,
+      )
+
+-- one pair more
+pub pairs-next : (l₀ l n : List ℕ) {s head clock steer count start done r time by next : ℕ} → PutsPairs s head clock steer count start done (ownersIn l₀) (lateIn l₀) (sourcesIn l₀) (ownersIn l) (lateIn l) (sourcesIn l)
+    → length l ≡ 7168 → r ≡ start + 2 * done → time ≡ clock + done → by ≡ steer + done → next ≡ gateAfter head start count done
+    → (ownersIn n ≡ twoPut (ownersIn l) r s s) × (lateIn n ≡ twoPut (lateIn l) r time 65535) × (sourcesIn n ≡ gatePut (sourcesIn l) r by next) × (wordsIn n ≡ wordsIn l)
+    → PutsPairs s head clock steer count start (done + 1) (ownersIn l₀) (lateIn l₀) (sourcesIn l₀) (ownersIn n) (lateIn n) (sourcesIn n)
+pairs-next l₀ l n t long re ce be ne p =
+    pairs-more t (section-length 0 1024 l (omega arith)) (section-length 2048 1024 l (omega arith)) (section-length 4096 3072 l (omega arith)) re ce be ne (p .0) (p .1) (p .2)

@@ -1,45 +1,43 @@
+-- None where there are no gates.
+use mathlib.Core.Path.{_∙_}
+use native.Mathlib.Omega.{arith}
+use Rattle.circuit.specs.Circuit.{netOf}
+use Rattle.steering.specs.ChainLaws.{steers-zero, steers-read}
 use borrow.Author.Needs.{needs}
 use Rattle.steering.proofs.chain.steers_on.Statement.{statement}
 use Rattle.steering.proofs.chain.steers_on.Tie as tie
-use Rattle.steering.proofs.chain.steers_on.Reads as reads
-use Rattle.steering.proofs.chain.steers_on.Lts as lts
-use Rattle.areas.proofs.read_at.Reads as read-at-reads
-use Rattle.circuit.proofs.wide.Reads as wide-reads
-use Rattle.steering.proofs.chain.shown_on.Reads as shown-on-reads
-use Rattle.wiring.proofs.minus.Reads as minus-reads
-use Rattle.wiring.proofs.origin_of.Reads as origin-of-reads
 
--- src/chain.rt:45:9
 shown-on-requires : tie.Need-shown-on-requires
 shown-on-requires c κs = search needs
 
--- src/chain.rt:47:9
 returns : tie.Need-returns
-returns c = ?
+returns c =
+    let a = c .before .before .before .before .before .args in
+    (steers-zero (netOf (a .file .now) (a .net .now)) _ (a .x) (a .s) (c .before .shown-on .ensures .0) (c .if1 .taken), omega arith)
 
--- src/chain.rt:49:11
 origin-of-requires : tie.Need-origin-of-requires
 origin-of-requires c κs = search needs
 
--- src/chain.rt:49:44
 read-at-requires : tie.Need-read-at-requires
 read-at-requires c κs = search needs
 
--- src/chain.rt:49:39
 wide-requires : tie.Need-wide-requires
 wide-requires c κs = search needs
 
--- src/chain.rt:49:5
 minus-requires : tie.Need-minus-requires
 minus-requires c κs = search needs
 
--- src/chain.rt:49:5
 add-result : tie.Need-add-result
 add-result c = search needs
 
--- src/chain.rt:40:1
 returns-2 : tie.Need-returns-2
-returns-2 c = ?
+returns-2 c =
+    let a = c .before .before .before .before .before .before .before .before .before .args in
+    let t = c .before .before .before .before .before .before .before .before .before .pre .1 in
+    let l = c .before .wide .ensures .0 ∙ c .before .before .read-at .ensures ∙ t .0 .leads-in (a .x) (t .2) in
+    let s = c .before .before .before .before .before .shown-on .ensures in
+    let m = c .minus .ensures in
+    (omega (arith, m, steers-read (netOf (a .file .now) (a .net .now)) _ (a .x) (a .s) (s .0) (c .before .before .before .before .if1 .left) (c .before .before .before .origin-of .ensures .0) l), omega (arith, m, s .1, c .before .before .before .origin-of .ensures .1))
 
 pub steers-on-spec : {M : Type 1} → statement M
 steers-on-spec =
