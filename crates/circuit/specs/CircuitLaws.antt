@@ -16,8 +16,8 @@ use Rattle.netlist.specs.TableField.{tableRead}
 use Rattle.netlist.specs.TableLaws.{table-facts}
 use Rattle.netlist.specs.ScanLaws.{TableAt}
 use Rattle.netlist.specs.File.{tableIn}
-use Rattle.netlist.specs.Net.{Table, Net, nowhere, noTable, size, nodeAt, elementAt, widthAt, source, operands, isInput, isRegister, isAsync, isClocked, countOf}
-use Rattle.circuit.specs.Code.{codeOf, elementBy, numberOr, tableOr, code-by, number-by, table-by, code-input, code-register, code-async, code-clocked}
+use Rattle.netlist.specs.Net.{Table, Net, nowhere, noTable, size, nodeAt, elementAt, widthAt, source, operands, isInput, isOutput, isRegister, isAsync, isClocked, countOf}
+use Rattle.circuit.specs.Code.{codeOf, elementBy, numberOr, tableOr, code-by, number-by, table-by, code-input, code-output, code-register, code-async, code-clocked}
 use Rattle.circuit.specs.Circuit.{field, atCode, atWidth, atCount, atNumber, atTable, atTurn, rowNode, rowAt, nodesOf, tablesOf, orderOf, netOf, Fits, Circuit}
 
 -- ---- node v
@@ -106,6 +106,9 @@ module _ (s l : List ℕ) where
 module _ (e : Element) {c : ℕ} (q : c ≡ codeOf e) where
   pub input-is : {b : ℕ} → b ≡ one (eqb c 0) → b ≡ one (isInput e)
   input-is r = r ∙ ap (λ (k : ℕ). one (eqb k 0)) q ∙ ap one (code-input e)
+
+  pub output-is : {b : ℕ} → b ≡ one (eqb c 1) → b ≡ one (isOutput e)
+  output-is r = r ∙ ap (λ (k : ℕ). one (eqb k 1)) q ∙ ap one (code-output e)
 
   pub register-is : {b : ℕ} → b ≡ one (eqb c 2) → b ≡ one (isRegister e)
   register-is r = r ∙ ap (λ (k : ℕ). one (eqb k 2)) q ∙ ap one (code-register e)

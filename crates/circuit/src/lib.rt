@@ -7,7 +7,7 @@ ghost use Prim.Native.Nat.{_+_, _*_, _^_, _<_, _≤_};
 ghost use lib.ListN.{length, getD, set};
 ghost use lib.Dec.{eqb};
 ghost use Rattle.lists.specs.Lists.{one};
-ghost use Rattle.netlist.specs.Net.{Net, noTable, spelled, size, elementAt, widthAt, source, operands, isInput, isRegister, isAsync, isClocked, countOf};
+ghost use Rattle.netlist.specs.Net.{Net, noTable, spelled, size, elementAt, widthAt, source, operands, isInput, isOutput, isRegister, isAsync, isClocked, countOf};
 ghost use Rattle.netlist.specs.ScanLaws.{TableAt};
 ghost use Rattle.netlist.specs.File.{tableIn};
 ghost use Rattle.circuit.specs.Code.{codeOf, numberOr, tableOr};
@@ -53,7 +53,7 @@ pub fn wide(x: u16) -> usize
     x as usize
 }
 
-// 1 where a code is that of a kind: 0 an input port, 2 a register, 3 an asynchronous ROM, 4 a clocked one.
+// 1 where a code is that of a kind: 0 an input port, 1 an output port, 2 a register, 3 an asynchronous ROM, 4 a clocked one.
 pub fn is_kind(code: usize, kind: usize) -> usize
     ensures { λ r. ⌜ (r ≡ one (eqb code kind)) × (r ≤ 1) ⌝ }
 {
@@ -145,6 +145,13 @@ pub fn input(file: &[u8], net: &[u16], v: usize) -> usize
     ensures { λ r. ⌜ (r ≡ one (isInput (elementAt (netOf (now (file .entry)) (now (net .entry))) v))) × (r ≤ 1) ⌝ }
 {
     is_kind(code_of(file, net, v), 0)
+}
+
+pub fn output(file: &[u8], net: &[u16], v: usize) -> usize
+    requires { ⌜ Circuit (now file) (now net) × (v < size (netOf (now file) (now net))) ⌝ }
+    ensures { λ r. ⌜ (r ≡ one (isOutput (elementAt (netOf (now (file .entry)) (now (net .entry))) v))) × (r ≤ 1) ⌝ }
+{
+    is_kind(code_of(file, net, v), 1)
 }
 
 pub fn register(file: &[u8], net: &[u16], v: usize) -> usize
