@@ -7,6 +7,7 @@ ghost use Prim.Native.Nat.{max};
 ghost use Rattle.netlist.specs.Net.{Net, Sourced};
 ghost use Rattle.circuit.specs.Opened.{opened};
 ghost use Rattle.retiming.specs.Leads.{closedDebt};
+ghost use Rattle.retiming.specs.Rewrite.{timing};
 ghost use Rattle.retiming.specs.Preview.{largestLead};
 ghost use Rattle.leads.specs.Settled.{LeadsIn};
 
@@ -19,7 +20,7 @@ fn larger(a: u16, b: u16) -> u16
 // The numbers of the registers are looked at too: none is larger than that of some other node.
 pub fn largest_lead(file: &[u8], net: &[u16], leads: &[u16]) -> u16
     ghost { Net }
-    requires { λ N. opened 𝓤 (now file) (now net) N (Sourced N × (closedDebt N ≡ false) × LeadsIn N (now leads)) }
+    requires { λ N. opened 𝓤 (now file) (now net) N (Sourced N × (closedDebt N ≡ false) × LeadsIn N (timing N) (now leads)) }
     ensures { λ N r. ⌜ r ≡ largestLead N ⌝ }
 {
     let n = node_count(file, net);

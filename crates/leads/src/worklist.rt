@@ -1,4 +1,4 @@
-// A worklist: nodes whose leads were raised wait on a stack until they raise what they read. It saves passes, and nobody trusts it.
+// A worklist: nodes whose numbers were raised wait on a stack until they raise what they read. It saves passes, and nobody trusts it.
 use super::relax;
 use areas::number_at;
 use areas::put_number;
@@ -15,8 +15,7 @@ ghost use lib.ListN.{length};
 ghost use Rattle.netlist.specs.Net.{Net, size, Sourced};
 ghost use Rattle.circuit.specs.Circuit.{Circuit};
 ghost use Rattle.circuit.specs.Opened.{opened};
-ghost use Rattle.retiming.specs.AtMostRoms.{romCount};
-ghost use Rattle.leads.specs.Progress.{Walked};
+ghost use Rattle.leads.specs.Progress.{StillWalked};
 
 // The stack stands first in the work area, then a flag for each node that waits on it.
 const WAITING: usize = 1024;
@@ -66,12 +65,12 @@ fn push_order(file: &[u8], net: &[u16], work: &mut [u16]) -> usize
     depth
 }
 
-// Visits the nodes in order from the last on, and again those whose lead was raised: each raises what it reads.
-// A lead over the bound shows a closed debt, and ends it.
+// Visits the nodes in order from the last on, and again those whose number was raised: each raises what it reads.
+// A number over the bound shows a closed debt, and ends it.
 pub fn spread(file: &[u8], net: &[u16], bound: usize, leads: &mut [u16])
     ghost { Net }
-    requires { λ N. opened 𝓤 (now file) (now net) N (Sourced N × (bound ≡ romCount N) × Walked N (now leads)) }
-    ensures { λ N _. ⌜ Walked N (now (leads .exit)) ⌝ }
+    requires { λ N. opened 𝓤 (now file) (now net) N (Sourced N × (bound < 65535) × (size N ≤ length (now leads))) }
+    ensures { λ N _. ⌜ StillWalked N (now (leads .entry)) (now (leads .exit)) ⌝ }
 {
     let n = node_count(file, net);
     let mut work = [0u16; 2048];

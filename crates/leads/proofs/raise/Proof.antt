@@ -1,4 +1,4 @@
--- The two ways: the lead stands, or it is raised.
+-- The two ways: the number stands, or it is raised.
 use native.Mathlib.Omega.{arith}
 use borrow.Author.Needs.{needs}
 use Rattle.leads.specs.Progress.{enough, lifted}

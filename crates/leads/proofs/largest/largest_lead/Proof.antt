@@ -7,6 +7,8 @@ use lib.ListN.{getD}
 use borrow.Author.Needs.{needs}
 use Rattle.lists.specs.Lists.{largest}
 use Rattle.circuit.specs.Circuit.{netOf}
+use Rattle.retiming.specs.Leads.{lead}
+use Rattle.retiming.specs.Rewrite.{timing, timingBy}
 use Rattle.retiming.specs.LargestLead.{leads-largest}
 use Rattle.leads.proofs.largest.largest_lead.Statement.{statement}
 use Rattle.leads.proofs.largest.largest_lead.Tie as tie
@@ -42,6 +44,7 @@ loop-again c =
     (omega arith, c .larger .ensures ∙ ap₂ max (l .inv .1) (c .before .number-at .ensures) ∙ sym (ap (λ (k : ℕ). largest k (λ u. getD (a .leads .now) u 0)) (add-one (l .v))))
 
 returns : tie.Need-returns Inv-loop μ-loop
+unfolding lead timing timingBy
 returns c =
     let a = c .before .before .before .before .before .before .args in
     let p = c .before .before .before .before .before .before .pre in

@@ -1,19 +1,19 @@
--- The loop's invariant: each lead is some walk's excess. Each raise lowers what is left to raise by one at least, and puts three nodes on the stack at most.
+-- The loop's invariant: each number is still some walk's. Each raise lowers what is left to raise by one at least, and puts three nodes on the stack at most.
 use mathlib.Core.Path.{_≡_, refl, sym, _∙_}
 use Prim.Native.Nat.{ℕ, _+_, _*_}
 use native.Mathlib.Omega.{arith}
 use lib.ListN.{length, length-replicate}
 use borrow.Author.Needs.{needs}
 use Rattle.circuit.specs.Circuit.{netOf}
-use Rattle.leads.specs.Progress.{Walked, left}
+use Rattle.leads.specs.Progress.{StillWalked, left}
 use Rattle.leads.proofs.worklist.spread.Statement.{statement}
 use Rattle.leads.proofs.worklist.spread.Tie as tie
 
 abbrev Inv-loop : tie.InvT-loop
-Inv-loop file net bound leads₀ n work₀ depth₀ leads work depth = (length leads ≡ length leads₀) × (length work ≡ 2048) × Walked (netOf file net) leads
+Inv-loop file net bound leads₀ n work₀ depth₀ leads work depth = (length leads ≡ length leads₀) × (length work ≡ 2048) × StillWalked (netOf file net) leads₀ leads
 
 abbrev μ-loop : tie.MeasureT-loop
-μ-loop file net bound leads₀ n work₀ depth₀ leads work depth = depth + 4 * left (netOf file net) leads
+μ-loop file net bound leads₀ n work₀ depth₀ leads work depth = depth + 4 * left bound leads
 
 node-count-requires : tie.Need-node-count-requires Inv-loop μ-loop
 node-count-requires c κs = search needs
@@ -25,7 +25,7 @@ push-order-requires : tie.Need-push-order-requires Inv-loop μ-loop
 push-order-requires c κs = search needs
 
 loop-holds : tie.Need-loop-holds Inv-loop μ-loop
-loop-holds c = (refl, c .before .push-order .kept .1 .1 .0 ∙ length-replicate {A = ℕ} 2048 0, c .before .before .before .before .before .before .before .pre .1 .2)
+loop-holds c = (refl, c .before .push-order .kept .1 .1 .0 ∙ length-replicate {A = ℕ} 2048 0, λ ends w. w)
 
 sub-depth : tie.Need-sub-depth Inv-loop μ-loop
 sub-depth c = search needs
@@ -69,7 +69,7 @@ write-at-requires c κs = search needs
 relax-requires : tie.Need-relax-requires Inv-loop μ-loop
 relax-requires c κs =
     let p = c .before .before .before .before .before .before .before .before .before .before .before .before .before .before .before .before .before .before .before .before .before .pre in
-    (p .0, (p .1 .0, p .1 .1, omega (arith, c .before .before .before .before .before .before .before .before .before .before .before .before .before .before .before .before .before .node-count .ensures .0, c .before .before .before .before .before .before .before .before .if1 .left), c .before .before .before .before .before .before .before .before .before .before .before .before .before .loop .inv .2))
+    (p .0, (p .1 .0, p .1 .1, omega (arith, c .before .before .before .before .before .before .before .before .before .before .before .before .before .before .before .before .before .node-count .ensures .0, c .before .before .before .before .before .before .before .before .if1 .left), omega (arith, p .1 .2, c .before .before .before .before .before .before .before .before .before .before .before .before .before .loop .inv .0)))
 
 loop-less-2 : tie.Need-loop-less-2 Inv-loop μ-loop
 loop-less-2 c = omega (arith, c .before .before .before .relax .ensures .1 .falls, c .before .before .before .before .before .before .before .before .before .before .before .before .before .before .before .before .loop-test .taken)
@@ -78,7 +78,7 @@ loop-again-2 : tie.Need-loop-again-2 Inv-loop μ-loop
 loop-again-2 c =
     let k = c .before .before .before .before .before .before .before .before .before .before .before .before .before .before .before .before .before .loop .inv in
     let r = c .before .before .before .relax in
-    (r .kept .1 .1 .1 .1 .0 ∙ k .0, c .before .before .before .before .before .before .write-at .kept .0 ∙ k .1, r .ensures .1 .walked)
+    (r .kept .1 .1 .1 .1 .0 ∙ k .0, c .before .before .before .before .before .before .write-at .kept .0 ∙ k .1, λ ends w. r .ensures .1 .walked ends (k .2 ends w))
 
 slice-aggregate-push-sources : tie.Need-slice-aggregate-push-sources Inv-loop μ-loop
 slice-aggregate-push-sources c = sym (c .before .before .before .before .before .before .before .write-at .kept .0 ∙ c .before .before .before .before .before .before .before .before .before .before .before .before .before .before .before .before .before .before .loop .inv .1)
@@ -93,7 +93,7 @@ loop-again-3 : tie.Need-loop-again-3 Inv-loop μ-loop
 loop-again-3 c =
     let k = c .before .before .before .before .before .before .before .before .before .before .before .before .before .before .before .before .before .before .before .before .loop .inv in
     let r = c .before .before .before .before .before .before .relax in
-    (r .kept .1 .1 .1 .1 .0 ∙ k .0, c .before .push-sources .kept .1 .1 .1 .0 ∙ c .before .before .before .before .before .before .before .before .before .write-at .kept .0 ∙ k .1, r .ensures .1 .walked)
+    (r .kept .1 .1 .1 .1 .0 ∙ k .0, c .before .push-sources .kept .1 .1 .1 .0 ∙ c .before .before .before .before .before .before .before .before .before .write-at .kept .0 ∙ k .1, λ ends w. r .ensures .1 .walked ends (k .2 ends w))
 
 same-length-2 : tie.Need-same-length-2 Inv-loop μ-loop
 same-length-2 c = c .before .loop .inv .0
