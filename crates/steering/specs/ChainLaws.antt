@@ -105,6 +105,10 @@ module _ (N : Net) (f : Timing) where
       by-element false (Clocked m r) = refl
       by-element false (Gate o) = refl
 
+  pub chain-is : largest (size N) (steersOf N f (zeroWord N)) ≡ chainLength N f (zeroWord N)
+  unfolding chainLength
+  chain-is = refl
+
 -- one number more
 pub largest-more : (g : ℕ → ℕ) (v : ℕ) {most next r : ℕ} → most ≡ largest v g → next ≡ g v → r ≡ max most next → r ≡ largest (v + 1) g
 largest-more g v a b c = c ∙ ap₂ max a b ∙ sym (ap (λ (k : ℕ). largest k g) (add-one v))

@@ -3,5 +3,6 @@ pub mod GatesTo
 pub mod PairsPut
 pub mod GatesRow
 pub mod GatesLaws
-pub mod SteeringLaws
 pub mod ChainLaws
+pub mod GatesArea
+pub mod SteeringLaws

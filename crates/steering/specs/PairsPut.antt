@@ -116,7 +116,7 @@ module _ {s head clock steer count start : ℕ} {owners late sources : List ℕ}
 -- ---- in the plan's area
 
 -- two registers are put where the constant and its gate stand, and then what else the gate reads
-module _ (l m n : List ℕ) {r s clock steer : ℕ} (long : length l ≡ 7168) (p : RegisterPut l m r s clock 0) (q : RegisterPut m n (r + 1) s 65535 steer) where
+module _ (l m n : List ℕ) (r s clock steer : ℕ) (long : length l ≡ 7168) (p : RegisterPut l m r s clock 0) (q : RegisterPut m n (r + 1) s 65535 steer) where
   owners-two : ownersIn n ≡ twoPut (ownersIn l) r s s
   owners-two = q .0 ∙ ap (λ (y : List ℕ). set y (r + 1) s) (p .0)
 
@@ -129,8 +129,8 @@ module _ (l m n : List ℕ) {r s clock steer : ℕ} (long : length l ≡ 7168) (
   abbrev PairPut : List ℕ → ℕ → Type 0
   PairPut k next = (ownersIn k ≡ twoPut (ownersIn l) r s s) × (lateIn k ≡ twoPut (lateIn l) r clock 65535) × (sourcesIn k ≡ gatePut (sourcesIn l) r steer next) × (wordsIn k ≡ wordsIn l)
 
-  pub pair-room : (k k′ : List ℕ) {next : ℕ} → r + 1 < 1024 → k ≡ set n (4096 + (3 * (r + 1) + 1)) next → k′ ≡ set k (4096 + (3 * (r + 1) + 2)) r → PairPut k′ next
-  pair-room k k′ {next} h a b =
+  pub pair-room : (k k′ : List ℕ) (next : ℕ) → r + 1 < 1024 → k ≡ set n (4096 + (3 * (r + 1) + 1)) next → k′ ≡ set k (4096 + (3 * (r + 1) + 2)) r → PairPut k′ next
+  pair-room k k′ next h a b =
       let y = source-put n k (3 * (r + 1) + 1) next (omega arith) a in
       let z = source-put k k′ (3 * (r + 1) + 2) r (omega arith) b in (
         z .1 ∙ y .1 ∙ owners-two,
@@ -140,8 +140,8 @@ module _ (l m n : List ℕ) {r s clock steer : ℕ} (long : length l ≡ 7168) (
       )
 
   -- there is no room for the gate
-  pub pair-full : {next : ℕ} → 1024 ≤ r + 1 → PairPut n next
-  pair-full {next} h =
+  pub pair-full : (next : ℕ) → 1024 ≤ r + 1 → PairPut n next
+  pair-full next h =
       let one : List ℕ = set (sourcesIn l) (3 * r) 0 in
       let two : List ℕ = set one (3 * (r + 1)) steer in
       let a : length two ≡ 3072 = length-set one (3 * (r + 1)) steer ∙ length-set (sourcesIn l) (3 * r) 0 ∙ section-length 4096 3072 l (omega arith) in (

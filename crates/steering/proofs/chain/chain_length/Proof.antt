@@ -1,48 +1,57 @@
+-- The loop's invariant: the largest of the first x nodes.
+use mathlib.Core.Path.{_≡_, refl, ap, _∙_}
+use Prim.Native.Nat.{ℕ, _-_, _≤_}
+use native.Mathlib.Omega.{arith}
+use Rattle.lists.specs.Lists.{largest}
+use Rattle.circuit.specs.Circuit.{netOf}
+use Rattle.behaviour.specs.Run.{zeroWord}
+use Rattle.retiming.specs.Gates.{steersOf}
+use Rattle.retiming.specs.Modes.{modeTiming}
+use Rattle.steering.specs.ChainLaws.{largest-more, chain-is}
+use borrow.Author.Needs.{needs}
 use Rattle.steering.proofs.chain.chain_length.Statement.{statement}
 use Rattle.steering.proofs.chain.chain_length.Tie as tie
-use Rattle.steering.proofs.chain.chain_length.Reads as reads
-use Rattle.steering.proofs.chain.chain_length.Lts as lts
-use Rattle.circuit.proofs.node_count.Reads as node-count-reads
-use Rattle.steering.proofs.chain.larger.Reads as larger-reads
-use Rattle.steering.proofs.chain.steers_of.Reads as steers-of-reads
 
 abbrev Inv-loop : tie.InvT-loop
-Inv-loop file net mode timing n most₀ x₀ most x = ?
+Inv-loop file net mode timing n most₀ x₀ most x = (x ≤ n) × (most ≡ largest x (steersOf (netOf file net) (modeTiming mode (netOf file net)) (zeroWord (netOf file net)))) × (most ≤ 2051)
 
 abbrev μ-loop : tie.MeasureT-loop
-μ-loop file net mode timing n most₀ x₀ most x = ?
+μ-loop file net mode timing n most₀ x₀ most x = n - x
 
--- src/chain.rt:81:9
 node-count-requires : tie.Need-node-count-requires Inv-loop μ-loop
-node-count-requires c κs = ?
+node-count-requires c κs = search needs
 
--- src/chain.rt:84:5
 loop-holds : tie.Need-loop-holds Inv-loop μ-loop
-loop-holds c = ?
+loop-holds c = (omega arith, refl, omega arith)
 
--- src/chain.rt:85:29
 steers-of-requires : tie.Need-steers-of-requires Inv-loop μ-loop
-steers-of-requires c κs = ?
+steers-of-requires c κs = (c .before .before .before .before .before .before .pre .0, (c .before .before .before .before .before .before .pre .1 .0, c .before .before .before .before .before .before .pre .1 .1, omega (arith, c .before .before .node-count .ensures .0, c .loop-test .taken)))
 
--- src/chain.rt:85:9
 larger-requires : tie.Need-larger-requires Inv-loop μ-loop
-larger-requires c κs = ?
+larger-requires c κs = search needs
 
--- src/chain.rt:86:13
 add-x : tie.Need-add-x Inv-loop μ-loop
-add-x c = ?
+add-x c = omega (arith, c .before .before .loop-test .taken, c .before .before .before .before .node-count .ensures .1)
 
--- src/chain.rt:84:5
 loop-less : tie.Need-loop-less Inv-loop μ-loop
-loop-less c = ?
+loop-less c = omega (arith, c .before .before .loop-test .taken)
 
--- src/chain.rt:84:5
 loop-again : tie.Need-loop-again Inv-loop μ-loop
-loop-again c = ?
+loop-again c =
+    let a = c .before .before .before .before .before .before .before .before .args in
+    let N = netOf (a .file .now) (a .net .now) in
+    let i = c .before .before .before .loop .inv in
+    let s = c .before .steers-of .ensures in
+    let r = c .larger .ensures in
+    (omega (arith, c .before .before .loop-test .taken), largest-more (steersOf N (modeTiming (a .mode) N) (zeroWord N)) (c .before .before .before .loop .x) (i .1) (s .0) r, omega (arith, r, i .2, s .1))
 
--- src/chain.rt:76:1
 returns : tie.Need-returns Inv-loop μ-loop
-returns c = ?
+returns c =
+    let a = c .before .before .before .before .before .before .args in
+    let N = netOf (a .file .now) (a .net .now) in
+    let i = c .before .loop .inv in
+    let e : c .before .loop .x ≡ c .before .before .node-count .result = omega (arith, i .0, c .loop-test .left) in
+    (i .1 ∙ ap (λ (k : ℕ). largest k (steersOf N (modeTiming (a .mode) N) (zeroWord N))) (e ∙ c .before .before .node-count .ensures .0) ∙ chain-is N (modeTiming (a .mode) N), i .2)
 
 pub chain-length-spec : {M : Type 1} → statement M
 chain-length-spec =

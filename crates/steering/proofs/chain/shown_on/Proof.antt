@@ -1,6 +1,6 @@
 -- Over what the timing area holds.
-use mathlib.Core.Path.{_≡_, ap, _∙_}
-use Prim.Native.Nat.{ℕ, _+_, _-_}
+use mathlib.Core.Path.{_∙_}
+use Prim.Native.Nat.{_<_}
 use native.Mathlib.Omega.{arith}
 use lib.ListN.{getD}
 use Rattle.wiring.specs.WiringLaws.{root-inside, root-read, passed-read}
@@ -64,7 +64,7 @@ returns-2 c =
     let t = c .before .before .before .before .before .before .before .before .before .before .before .before .before .before .before .before .pre .1 in
     let u = c .before .before .before .before .before .before .before .before .before .before .before .wide .ensures .0 ∙ c .before .before .before .before .before .before .before .before .before .before .before .before .read-at .ensures ∙ root-read (t .0) (t .3) in
     let o = c .before .before .before .before .before .before .before .before .before .before .origin-of .ensures .0 in
-    let late = omega (arith, c .before .before .before .before .before .before .before .if1 .left, c .before .before .before .before .before .before .before .before .wide2 .ensures .0 ∙ c .before .before .before .before .before .before .before .before .before .read-at2 .ensures) in
+    let late : getD (c .before .before .before .before .before .before .before .before .before .before .before .before .before .before .before .before .args .timing .now) (c .before .before .before .before .before .before .before .before .before .before .before .wide .result) 0 < c .before .before .before .before .before .before .before .before .before .before .origin-of .result = omega (arith, c .before .before .before .before .before .before .before .if1 .left, c .before .before .before .before .before .before .before .before .wide2 .ensures .0 ∙ c .before .before .before .before .before .before .before .before .before .read-at2 .ensures) in
     let p = c .before .before .before .before .before .wide3 .ensures .0 ∙ c .before .before .before .before .before .before .read-at3 .ensures ∙ passed-read (t .0) (t .3) in
     let x = c .before .before .wide4 .ensures .0 ∙ c .before .before .before .read-at4 .ensures in
     let k = c .before .before .before .before .clocked-rom .ensures .0 in

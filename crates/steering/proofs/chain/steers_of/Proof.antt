@@ -9,6 +9,7 @@ use Rattle.retiming.specs.Gates.{steersOn}
 use Rattle.retiming.specs.Modes.{modeTiming}
 use Rattle.wiring.specs.WiringLaws.{operand-inside}
 use Rattle.steering.specs.ChainLaws.{steersFrom, steers-from, steers-of, largest-more}
+use borrow.Author.Needs.{needs}
 use Rattle.steering.proofs.chain.steers_of.Statement.{statement}
 use Rattle.steering.proofs.chain.steers_of.Tie as tie
 
@@ -30,7 +31,7 @@ source-of-requires c κs = (c .before .before .before .before .before .before .p
 steers-on-requires : tie.Need-steers-on-requires Inv-loop μ-loop
 steers-on-requires c κs =
     let t = c .before .before .before .before .before .before .before .pre .1 in
-    (c .before .before .before .before .before .before .before .pre .0, (t .0, t .1, t .2, operand-inside _ _ (t .0 .formed .sourced) (t .2) (omega (arith, c .before .before .before .wires-to .ensures .0, c .before .loop-test .taken)) (c .source-of .ensures .0)))
+    (c .before .before .before .before .before .before .before .pre .0, (t .0, t .1, t .2, operand-inside _ (modeTiming (c .before .before .before .before .before .before .before .args .mode) (netOf (c .before .before .before .before .before .before .before .args .file .now) (c .before .before .before .before .before .before .before .args .net .now))) (t .0 .formed .sourced) (t .2) (omega (arith, c .before .before .before .wires-to .ensures .0, c .before .loop-test .taken)) (c .source-of .ensures .0)))
 
 larger-requires : tie.Need-larger-requires Inv-loop μ-loop
 larger-requires c κs = search needs

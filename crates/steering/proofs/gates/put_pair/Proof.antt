@@ -58,7 +58,7 @@ returns c =
     let a = c .before .before .before .before .before .before .before .before .before .before .before .before .before .before .before .before .before .before .args in
     let p = c .before .before .before .before .before .before .before .before .before .before .before .before .before .before .before .put-register in
     let q = c .before .before .before .before .before .before .before .before .before .before .before .put-register2 in
-    pair-room (a .plan .now) (p .last .1 .1 .1 .1 .0) (q .last .1 .1 .1 .1 .0) (c .before .before .before .before .before .before .before .before .before .before .before .before .before .before .before .before .before .before .pre .1) (p .ensures) (q .ensures) (c .before .before .before .before .before .before .write-at .last .0) (c .before .before .write-at2 .last .0) (c .before .before .before .before .before .before .before .before .if1 .taken) (c .before .before .before .before .before .before .write-at .ensures) (c .before .before .write-at2 .ensures)
+    pair-room (a .plan .now) (p .last .1 .1 .1 .1 .0) (q .last .1 .1 .1 .1 .0) (a .r) (a .s) (a .clock) (a .steer) (c .before .before .before .before .before .before .before .before .before .before .before .before .before .before .before .before .before .before .pre .1) (p .ensures) (q .ensures) (c .before .before .before .before .before .before .write-at .last .0) (c .before .before .write-at2 .last .0) (a .next) (c .before .before .before .before .before .before .before .before .if1 .taken) (c .before .before .before .before .before .before .write-at .ensures) (c .before .before .write-at2 .ensures)
 
 same-length-2 : tie.Need-same-length-2
 same-length-2 c = search needs
@@ -68,7 +68,7 @@ returns-2 c =
     let a = c .before .before .before .before .before .before .before .before .before .before .args in
     let p = c .before .before .before .before .before .before .before .put-register in
     let q = c .before .before .before .put-register2 in
-    pair-full (a .plan .now) (p .last .1 .1 .1 .1 .0) (q .last .1 .1 .1 .1 .0) (c .before .before .before .before .before .before .before .before .before .before .pre .1) (p .ensures) (q .ensures) (omega (arith, c .if1 .left))
+    pair-full (a .plan .now) (p .last .1 .1 .1 .1 .0) (q .last .1 .1 .1 .1 .0) (a .r) (a .s) (a .clock) (a .steer) (c .before .before .before .before .before .before .before .before .before .before .pre .1) (p .ensures) (q .ensures) (a .next) (omega (arith, c .if1 .left))
 
 pub put-pair-spec : {M : Type 1} → statement M
 put-pair-spec =
