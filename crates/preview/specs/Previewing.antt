@@ -25,6 +25,7 @@ use Rattle.retiming.specs.RegistersLast.{RegistersLast}
 use Rattle.retiming.specs.RewrittenFile.{past-13}
 use Rattle.retiming.specs.NewRegisters.{new-last}
 use Rattle.retiming.specs.Preview.{measured, sizeOf, Previewed, previewedBy, sourceBytes, previewed, previewFile}
+use Rattle.retiming.specs.declared.Mode.the-variants.{Plain}
 use Rattle.retime.specs.declared.Retimed.{Retimed}
 use Rattle.retime.specs.declared.Retimed.the-variants.{Laid}
 use Rattle.retime.specs.declared.Retimed.the-variants as retimed
@@ -78,11 +79,11 @@ module _ (M : Net) (m : ℕ) (z : Size) (t : Measures M m z) (l : List ℕ) wher
 abbrev after : List ℕ → List ℕ → Verdict → Previewed
 after s l v = let M = rewritten (decodedNet (decode s)) in previewedBy (onward v (outVerdict (sourceBytes M) l)) (sizeOf (decodedNet (decode s))) (sourceBytes M) l
 
-module _ {s net : List ℕ} {r : Retimed} (t : LaysFile s net r) where
+module _ {s net : List ℕ} {r : Retimed} (t : LaysFile Plain s net r) where
   -- the rewritten netlist's registers stand last
   pub laid-last : Bytes s → {m : ℕ} → r ≡ Laid m → RegistersLast (netOf s net) (length (bySource (netOf s net)))
   laid-last b q =
-      let (accepted, lead, laid) = laid-accepted t q in
+      let (accepted, lead, laid) = laid-accepted Plain t q in
       let p = past-13 s accepted in
       rw (laid .0) (rw (p .reads) (new-last s b p))
 
@@ -90,10 +91,10 @@ module _ {s net : List ℕ} {r : Retimed} (t : LaysFile s net r) where
     pub laid-fits : {m : ℕ} → r ≡ Laid m → previewed (netOf s net) m l ≡ previewFile s l
     unfolding previewFile sizeOf previewed
     laid-fits {m} q =
-        let (accepted, lead, laid) = laid-accepted t q in
+        let (accepted, lead, laid) = laid-accepted Plain t q in
         ap₂ (λ (M : Net) (k : ℕ). previewed M k l) (laid .0) lead
         ∙ ap (after s l) (sym accepted)
 
     pub laid-none : {k p : ℕ} → r ≡ retimed.Refused k p → record { preview = Refused k p; list = l } ≡ previewFile s l
     unfolding previewFile
-    laid-none q = ap (after s l) (sym (laid-refused t q))
+    laid-none q = ap (after s l) (sym (laid-refused Plain t q))

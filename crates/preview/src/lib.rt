@@ -8,6 +8,7 @@ use circuit::node_count;
 use circuit::wide;
 use retime::Retimed;
 use retime::retime_file;
+use retiming::Mode;
 use retiming::Preview;
 use retiming::Size;
 use saving::circuit_length;
@@ -59,7 +60,7 @@ pub fn preview_file(file: &[u8], list: &mut [u8]) -> Preview
         × (now (list .exit) ≡ previewFile (now (file .entry)) (now (list .entry)) .list) ⌝ }
 {
     let mut new = [0u16; WORDS];
-    match retime_file(file, &mut new) {
+    match retime_file(file, Mode::Plain, &mut new) {
         Retimed::Refused(number, place) => Preview::Refused(number, place),
         Retimed::Laid(lead) => measure_fitting(file, &new, lead, list),
     }

@@ -1,5 +1,5 @@
--- A rewritten file is shorter than 65,536 bytes, and so is one that is previewed. Assumes nothing.
-use mathlib.Core.Path.{_≡_, refl}
+-- A rewritten file of either mode is shorter than 65,536 bytes, and so is one that is previewed. Assumes nothing.
+use mathlib.Core.Path.{_≡_, refl, sym, subst}
 use mathlib.Core.Logic.{⊎-elim}
 use mathlib.Core.Bool.{true, false}
 use mathlib.Core.List.{List}
@@ -14,8 +14,10 @@ use Rattle.codec.specs.Bytes.{Bytes}
 use Rattle.retiming.specs.declared.Preview.{Preview}
 use Rattle.retiming.specs.declared.Preview.the-variants.{Fits}
 use Rattle.retiming.specs.declared.Preview.the-variants as preview
-use Rattle.retiming.specs.FileRewrite.{rewriterVerdict, rewrittenFile, written, writtenAfter, rewriteFile}
-use Rattle.retiming.specs.RewrittenFile.{past-13, new-length}
+use Rattle.retiming.specs.declared.Mode.{Mode}
+use Rattle.retiming.specs.FileRewrite.{Rewrote, written, writtenAfter}
+use Rattle.retiming.specs.Modes.{modeFileVerdict, modeFile, modeRewrite}
+use Rattle.retiming.specs.ModeFiles.{mode-rewrite, mode-length}
 use Rattle.retiming.specs.Preview.{previewFile}
 use Rattle.retiming.specs.PreviewLaws.{fits-within}
 use Rattle.punqelis.specs.Code.{answerOf}
@@ -29,12 +31,11 @@ written-within b out h =
     (λ (e : ltb (length out) (length b) ≡ false). rw e (accepted-within h))
     (true-or-false (ltb (length out) (length b)))
 
-pub rewrite-within : (s out : List ℕ) → Bytes s → LengthWithin 65535 (rewriteFile s out .answer)
-unfolding rewriteFile
-rewrite-within s out b = by-verdict (rewriterVerdict s) refl
+pub rewrite-within : (mode : Mode) (s out : List ℕ) → Bytes s → LengthWithin 65535 (modeRewrite mode s out .answer)
+rewrite-within mode s out b = subst (λ (w : Rewrote). LengthWithin 65535 (w .answer)) (sym (mode-rewrite mode s out)) (by-verdict (modeFileVerdict mode s) refl)
   where
-    by-verdict : (v : Verdict) → rewriterVerdict s ≡ v → LengthWithin 65535 (writtenAfter v (rewrittenFile s) out .answer)
-    by-verdict Fine e = written-within (rewrittenFile s) out (let l = new-length s b (past-13 s e) in omega arith)
+    by-verdict : (v : Verdict) → modeFileVerdict mode s ≡ v → LengthWithin 65535 (writtenAfter v (modeFile mode s) out .answer)
+    by-verdict Fine e = written-within (modeFile mode s) out (let l = mode-length mode s b e in omega arith)
     by-verdict (Refuses k p) e = refused-within
 
 pub preview-within : (s l : List ℕ) → Bytes s → LengthWithin 65535 (answerOf (previewFile s l .preview))

@@ -4,6 +4,7 @@ use netlist::Answer;
 use preview::preview_file;
 use retiming::Preview;
 use rewriter::rewrite_file;
+use rewriter::rewrite_late;
 use run::reset_state;
 use run::run_clock;
 ghost use mathlib.Core.Path.{_≡_};
@@ -11,6 +12,7 @@ ghost use Prim.Native.Nat.{_≤_};
 ghost use Rattle.netlist.specs.File.{checkAnswer};
 ghost use Rattle.behaviour.specs.Service.{resetFile, runFile};
 ghost use Rattle.retiming.specs.FileRewrite.{rewriteFile};
+ghost use Rattle.retiming.specs.LateFile.{lateRewrite};
 ghost use Rattle.retiming.specs.Preview.{previewFile};
 ghost use Rattle.punqelis.specs.Code.{answerOf, asNumber, asNumbers};
 ghost use Rattle.punqelis.specs.CodeLaws.{LengthWithin};
@@ -110,6 +112,15 @@ pub extern "C" fn punqelis_rewrite(file: &[u8], out: &mut [u8]) -> u32
         × (now (out .exit) ≡ rewriteFile (now (file .entry)) (now (out .entry)) .out) ⌝ }
 {
     code(rewrite_file(file, out))
+}
+
+// Rewrites a file with a late start, for a ROM straight behind an input port: likewise.
+#[no_mangle]
+pub extern "C" fn punqelis_rewrite_late(file: &[u8], out: &mut [u8]) -> u32
+    ensures { λ r. ⌜ (r ≡ asNumber (lateRewrite (now (file .entry)) (now (out .entry)) .answer))
+        × (now (out .exit) ≡ lateRewrite (now (file .entry)) (now (out .entry)) .out) ⌝ }
+{
+    code(rewrite_late(file, out))
 }
 
 // What rewriting a file would give: the new file's size, and its registers by source in the list; or the refusal (1 to 14), which leaves the list as it was.

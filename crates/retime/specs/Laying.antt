@@ -1,10 +1,10 @@
--- The rewritten netlist of a file, laid as a circuit, check by check. Assumes nothing.
-use mathlib.Core.Path.{_≡_, refl, sym, ap, _∙_}
+-- The new netlist of a file in either mode, laid as a circuit, check by check. Assumes nothing.
+use mathlib.Core.Path.{_≡_, refl, sym, ap, subst, _∙_}
 use mathlib.Core.Bool.{true, false}
-use mathlib.Core.List.{List, [], _∷_}
+use mathlib.Core.List.{List, [], _∷_, _++_, map}
 use Prim.Native.Nat.{ℕ, _≤_, _<_}
 use native.Mathlib.Omega.{arith}
-use lib.ListN.{length, getD, take, length-map}
+use lib.ListN.{length, getD, take, length-append, length-map}
 use lib.Seq.{getD-take}
 use lib.Dec.{ltb, lit<}
 use borrow.Author.Tests.{lt-ltb, le-ltb}
@@ -18,11 +18,17 @@ use Rattle.netlist.specs.declared.Verdict.the-variants.{Fine, Refuses}
 use Rattle.circuit.specs.Circuit.{netOf, Circuit}
 use Rattle.checks.specs.Open.{Open}
 use Rattle.behaviour.specs.Run.{zeroWord}
+use Rattle.retiming.specs.declared.Mode.{Mode}
+use Rattle.retiming.specs.declared.Mode.the-variants.{Plain, Late}
 use Rattle.retiming.specs.Leads.{closedDebt}
-use Rattle.retiming.specs.Rewrite.{places, nodeOf, timing, rewrittenWith, rewritten}
-use Rattle.retiming.specs.Debt.{grown, debtVerdict}
-use Rattle.retiming.specs.FileRewrite.{rewriterVerdict, IsAccepted}
+use Rattle.retiming.specs.Rewrite.{places, timing}
+use Rattle.retiming.specs.Gates.{Spot, Old, chainSpots, pickSpots, spots, gatedWith}
+use Rattle.retiming.specs.Candidate.{size-new}
+use Rattle.retiming.specs.Debt.{grown}
 use Rattle.retiming.specs.Preview.{largestLead}
+use Rattle.retiming.specs.Modes.{modeClosed, modeOwing, modeTiming, modeNet, modeVerdict, modeFileVerdict}
+use Rattle.retiming.specs.ModeLaws.{mode-suits, mode-net}
+use Rattle.retiming.specs.ModeFiles.{mode-judged}
 use Rattle.leads.specs.Debts.{debtsVerdict, debts-first}
 use Rattle.leads.specs.Settled.{LeadsIn}
 use Rattle.wires.specs.Traced.{rootsIn, passesIn, AllTraced}
@@ -32,107 +38,147 @@ use Rattle.retime.specs.declared.Retimed.the-variants.{Laid, Refused}
 
 -- ---- 13
 
-unfoldable pub grownVerdict : Net → Verdict
-grownVerdict N = verdict (ofWhole 13 (λ v. grown (rewritten N)) ∷ [])
+unfoldable pub grownVerdict : Mode → Net → Verdict
+grownVerdict mode N = verdict (ofWhole 13 (λ v. grown (modeNet mode N)) ∷ [])
 
-module _ (N : Net) where
-  new-size : size (rewritten N) ≡ length (places N (timing N) (zeroWord N))
-  unfolding rewritten rewrittenWith
-  new-size = length-map (places N (timing N) (zeroWord N)) (nodeOf N (timing N) (zeroWord N))
+-- the new netlist is the one over the mode's timing
+abbrev pub NewIs : Mode → Net → Type 0
+NewIs mode N = gatedWith N (modeTiming mode N) (zeroWord N) ≡ modeNet mode N
 
-  pub says-13 : 1024 < length (places N (timing N) (zeroWord N)) → Refuses 13 65535 ≡ grownVerdict N
+module _ (mode : Mode) (N : Net) (is : NewIs mode N) where
+  new-size : size (modeNet mode N) ≡ length (spots N (modeTiming mode N) (zeroWord N))
+  new-size = sym (ap size is) ∙ size-new N (modeTiming mode N) (zeroWord N)
+
+  pub says-13 : 1024 < length (spots N (modeTiming mode N) (zeroWord N)) → Refuses 13 65535 ≡ grownVerdict mode N
   unfolding grownVerdict verdict grown
-  says-13 h = let g : ltb 1024 (size (rewritten N)) ≡ true = lt-ltb 1024 (size (rewritten N)) (omega (arith, new-size)) in sym (rw (g, verdict))
+  says-13 h = let g : ltb 1024 (size (modeNet mode N)) ≡ true = lt-ltb 1024 (size (modeNet mode N)) (omega (arith, new-size)) in sym (rw (g, verdict))
 
-  pub says-fine : length (places N (timing N) (zeroWord N)) ≤ 1024 → Fine ≡ grownVerdict N
+  pub says-fine : length (spots N (modeTiming mode N) (zeroWord N)) ≤ 1024 → Fine ≡ grownVerdict mode N
   unfolding grownVerdict verdict grown
-  says-fine h = let g : ltb 1024 (size (rewritten N)) ≡ false = le-ltb 1024 (size (rewritten N)) (omega (arith, new-size)) in sym (rw (g, verdict))
+  says-fine h = let g : ltb 1024 (size (modeNet mode N)) ≡ false = le-ltb 1024 (size (modeNet mode N)) (omega (arith, new-size)) in sym (rw (g, verdict))
+
+  -- the gates come on top of the places
+  pub says-13-places : 1024 < length (places N (modeTiming mode N) (zeroWord N)) → Refuses 13 65535 ≡ grownVerdict mode N
+  unfolding spots
+  says-13-places h =
+      let old : List Spot = map Old (places N (modeTiming mode N) (zeroWord N)) in
+      let rest : List Spot = chainSpots N (modeTiming mode N) (zeroWord N) ++ pickSpots N (modeTiming mode N) (zeroWord N) in
+      says-13 (omega (arith, length-append old rest, length-map (places N (modeTiming mode N) (zeroWord N)) Old))
 
 -- ---- what is answered, and what is then laid
 
+-- the largest lead, which the preview tells; that is of the plain mode
+abbrev pub modeLead : Mode → Net → ℕ
+modeLead Plain N = largestLead N
+modeLead Late N = 0
+
+pub lead-late : (N : Net) {mode : Mode} → mode ≡ Late → 0 ≡ modeLead mode N
+lead-late N e = ap (λ (m : Mode). modeLead m N) (sym e)
+
+pub lead-plain : (N : Net) {mode : Mode} {m : ℕ} → mode ≡ Plain → m ≡ largestLead N → m ≡ modeLead mode N
+lead-plain N e q = q ∙ ap (λ (m : Mode). modeLead m N) (sym e)
+
+-- what the plain mode's largest lead is found from
+pub plain-leads : (N : Net) {mode : Mode} {leads : List ℕ} → mode ≡ Plain → modeClosed mode N ≡ false → LeadsIn N (modeTiming mode N) leads → (closedDebt N ≡ false) × LeadsIn N (timing N) leads
+plain-leads N {leads = leads} e d l = (ap (λ (m : Mode). modeClosed m N) (sym e) ∙ d, subst (λ (m : Mode). LeadsIn N (modeTiming m N) leads) e l)
+
 -- by the verdict
-abbrev pub retimedBy : Verdict → Net → Retimed
-retimedBy Fine N = Laid (largestLead N)
-retimedBy (Refuses k p) N = Refused k p
+abbrev pub retimedBy : Mode → Verdict → Net → Retimed
+retimedBy mode Fine N = Laid (modeLead mode N)
+retimedBy mode (Refuses k p) N = Refused k p
 
 -- l is a circuit of the netlist, over the tables of the file s
 abbrev pub IsCircuit : List ℕ → List ℕ → Net → Type 0
 IsCircuit s l M = (netOf s l ≡ M) × Circuit s l
 
--- the answer is as told; and where it is no refusal, l is the rewritten netlist's circuit
-abbrev pub Lays : List ℕ → List ℕ → Net → Retimed → Retimed → Type 0
-Lays s l N told r = (r ≡ told) × ((m : ℕ) → r ≡ Laid m → IsCircuit s l (rewritten N))
+pub circuit-as : {s l : List ℕ} {M M′ : Net} → M ≡ M′ → IsCircuit s l M → IsCircuit s l M′
+circuit-as e (n, k) = (n ∙ e, k)
 
-abbrev pub LaysFile : List ℕ → List ℕ → Retimed → Type 0
-LaysFile s l r = Lays s l (decodedNet (decode s)) (retimedBy (rewriterVerdict s) (decodedNet (decode s))) r
+-- the answer is as told; and where it is no refusal, l is the new netlist's circuit
+abbrev pub Lays : List ℕ → List ℕ → Mode → Net → Retimed → Retimed → Type 0
+Lays s l mode N told r = (r ≡ told) × ((m : ℕ) → r ≡ Laid m → IsCircuit s l (modeNet mode N))
+
+abbrev pub LaysFile : Mode → List ℕ → List ℕ → Retimed → Type 0
+LaysFile mode s l r = Lays s l mode (decodedNet (decode s)) (retimedBy mode (modeFileVerdict mode s) (decodedNet (decode s))) r
 
 refused-none : {k p m : ℕ} → Refused k p ≡ Laid m → ⊥
 refused-none e = let q : _≡_ {A = ℕ} 0 1 = cc in omega arith
 
-module _ (s l : List ℕ) (N : Net) where
-  pub lays-none : {told : Retimed} {k p : ℕ} → Refused k p ≡ told → Lays s l N told (Refused k p)
+module _ (s l : List ℕ) (mode : Mode) (N : Net) where
+  pub lays-none : {told : Retimed} {k p : ℕ} → Refused k p ≡ told → Lays s l mode N told (Refused k p)
   lays-none e = (e, λ m q. absurd (refused-none q))
 
-  pub lays-as : {told told′ r : Retimed} → told ≡ told′ → Lays s l N told r → Lays s l N told′ r
+  pub lays-as : {told told′ r : Retimed} → told ≡ told′ → Lays s l mode N told r → Lays s l mode N told′ r
   lays-as e (t, laid) = (t ∙ e, laid)
 
-  pub lays : {v : Verdict} {m : ℕ} → v ≡ grownVerdict N → v ≡ Fine → IsCircuit s l (rewritten N) → m ≡ largestLead N → Lays s l N (retimedBy (grownVerdict N) N) (Laid m)
-  lays e q laid m = (ap Laid m ∙ ap (λ (w : Verdict). retimedBy w N) (sym q ∙ e), λ k f. laid)
+  pub lays : {v : Verdict} {m : ℕ} → v ≡ grownVerdict mode N → v ≡ Fine → IsCircuit s l (modeNet mode N) → m ≡ modeLead mode N → Lays s l mode N (retimedBy mode (grownVerdict mode N) N) (Laid m)
+  lays e q laid m = (ap Laid m ∙ ap (λ (w : Verdict). retimedBy mode w N) (sym q ∙ e), λ k f. laid)
 
 -- ---- what the answer tells of the verdict
 
-by-laid : (v : Verdict) (N : Net) {m : ℕ} → retimedBy v N ≡ Laid m → (v ≡ Fine) × (m ≡ largestLead N)
-by-laid Fine N e = (refl, cc)
-by-laid (Refuses k p) N e = absurd (refused-none e)
+module _ (mode : Mode) where
+  by-laid : (v : Verdict) (N : Net) {m : ℕ} → retimedBy mode v N ≡ Laid m → (v ≡ Fine) × (m ≡ modeLead mode N)
+  by-laid Fine N e = (refl, cc)
+  by-laid (Refuses k p) N e = absurd (refused-none e)
 
-by-refused : (v : Verdict) (N : Net) {k p : ℕ} → retimedBy v N ≡ Refused k p → v ≡ Refuses k p
-by-refused Fine N e = absurd (refused-none (sym e))
-by-refused (Refuses m q) N e = cc
+  by-refused : (v : Verdict) (N : Net) {k p : ℕ} → retimedBy mode v N ≡ Refused k p → v ≡ Refuses k p
+  by-refused Fine N e = absurd (refused-none (sym e))
+  by-refused (Refuses m q) N e = cc
 
-module _ {s l : List ℕ} {r : Retimed} (t : LaysFile s l r) where
-  pub laid-accepted : {m : ℕ} → r ≡ Laid m → IsAccepted s × (m ≡ largestLead (decodedNet (decode s))) × IsCircuit s l (rewritten (decodedNet (decode s)))
-  laid-accepted {m} q = let v = by-laid (rewriterVerdict s) (decodedNet (decode s)) (sym (t .0) ∙ q) in (v .0, v .1, t .1 m q)
+module _ (mode : Mode) {s l : List ℕ} {r : Retimed} (t : LaysFile mode s l r) where
+  pub laid-accepted : {m : ℕ} → r ≡ Laid m → (modeFileVerdict mode s ≡ Fine) × (m ≡ modeLead mode (decodedNet (decode s))) × IsCircuit s l (modeNet mode (decodedNet (decode s)))
+  laid-accepted {m} q = let v = by-laid mode (modeFileVerdict mode s) (decodedNet (decode s)) (sym (t .0) ∙ q) in (v .0, v .1, t .1 m q)
 
-  pub laid-refused : {k p : ℕ} → r ≡ Refused k p → rewriterVerdict s ≡ Refuses k p
-  laid-refused q = by-refused (rewriterVerdict s) (decodedNet (decode s)) (sym (t .0) ∙ q)
+  pub laid-refused : {k p : ℕ} → r ≡ Refused k p → modeFileVerdict mode s ≡ Refuses k p
+  laid-refused q = by-refused mode (modeFileVerdict mode s) (decodedNet (decode s)) (sym (t .0) ∙ q)
 
 -- ---- 11 and 12, then 13
 
-module _ (N : Net) where
-  onward-verdict : {v : Verdict} → v ≡ debtsVerdict N → onward v (grownVerdict N) ≡ debtVerdict N
+module _ (mode : Mode) (N : Net) where
+  onward-verdict : {v : Verdict} → v ≡ debtsVerdict mode N → onward v (grownVerdict mode N) ≡ modeVerdict mode N
   unfolding grownVerdict
-  onward-verdict e = ap (λ (w : Verdict). onward w (grownVerdict N)) e ∙ sym (debts-first N)
+  onward-verdict e = ap (λ (w : Verdict). onward w (grownVerdict mode N)) e ∙ sym (debts-first mode N)
 
   -- where 11 and 12 are said, and where they are not
-  pub by-debts : {v w : Verdict} → v ≡ debtsVerdict N → v ≡ w → retimedBy (onward w (grownVerdict N)) N ≡ retimedBy (debtVerdict N) N
-  by-debts e q = ap (λ (w : Verdict). retimedBy w N) (sym (ap (λ (w : Verdict). onward w (grownVerdict N)) q) ∙ onward-verdict e)
+  pub by-debts : {v w : Verdict} → v ≡ debtsVerdict mode N → v ≡ w → retimedBy mode (onward w (grownVerdict mode N)) N ≡ retimedBy mode (modeVerdict mode N) N
+  by-debts e q = ap (λ (w : Verdict). retimedBy mode w N) (sym (ap (λ (w : Verdict). onward w (grownVerdict mode N)) q) ∙ onward-verdict e)
 
-no-closed-debt : (N : Net) {v : Verdict} → v ≡ debtsVerdict N → v ≡ Fine → closedDebt N ≡ false
-unfolding debtsVerdict
-no-closed-debt N e q = fine-clear _ (sym e ∙ q) .0 0 (lit< tt)
+  module _ (wf : WellFormed N) {v : Verdict} (e : v ≡ debtsVerdict mode N) (q : v ≡ Fine) where
+    pub no-closed-debt : modeClosed mode N ≡ false
+    unfolding debtsVerdict
+    no-closed-debt = fine-clear _ (sym e ∙ q) .0 0 (lit< tt)
 
--- the leads stay where the roots are found
-pub now-timed : {N : Net} (leads timing : List ℕ) → WellFormed N → {v : Verdict} → v ≡ debtsVerdict N → v ≡ Fine → (v ≡ Fine → LeadsIn N leads) → take 1024 timing ≡ take 1024 leads
-    → AllTraced N (rootsIn timing) (passesIn timing) → Timed N timing
-now-timed {N} leads timing formed e q found same traced = record {
-  formed = formed;
-  debtless = no-closed-debt N e q;
-  leads-in = λ v h. let l : v < 1024 = omega (arith, formed .fields .bounds .nodes) in sym (getD-take 1024 timing v 0 l) ∙ ap (λ (y : List ℕ). getD y v 0) same ∙ getD-take 1024 leads v 0 l ∙ found q v h;
-  traced = traced;
-}
+    none-owes : (u : ℕ) → u < size N → modeOwing mode N u ≡ false
+    unfolding debtsVerdict
+    none-owes = fine-clear _ (sym e ∙ q) .1 .0
+
+    pub new-is : NewIs mode N
+    new-is = mode-net N wf mode no-closed-debt none-owes
+
+    -- the leads stay where the roots are found
+    pub now-timed : (leads area : List ℕ) → (v ≡ Fine → LeadsIn N (modeTiming mode N) leads) → take 1024 area ≡ take 1024 leads → AllTraced N (rootsIn area) (passesIn area) → Timed N (modeTiming mode N) area
+    now-timed leads area found same traced = record {
+      formed = wf;
+      suits = mode-suits N wf mode no-closed-debt none-owes;
+      leads-in = λ u h. let l : u < 1024 = omega (arith, wf .fields .bounds .nodes) in sym (getD-take 1024 area u 0 l) ∙ ap (λ (y : List ℕ). getD y u 0) same ∙ getD-take 1024 leads u 0 l ∙ found q u h;
+      traced = traced;
+    }
 
 -- ---- the file
 
-pub file-refused : (s : List ℕ) {k p : ℕ} → fileVerdict s ≡ Refuses k p → Refused k p ≡ retimedBy (rewriterVerdict s) (decodedNet (decode s))
-unfolding rewriterVerdict
-file-refused s e = sym (ap (λ (v : Verdict). retimedBy (onward v (debtVerdict (decodedNet (decode s)))) (decodedNet (decode s))) e)
+module _ (mode : Mode) where
+  pub file-refused : (s : List ℕ) {k p : ℕ} → fileVerdict s ≡ Refuses k p → Refused k p ≡ retimedBy mode (modeFileVerdict mode s) (decodedNet (decode s))
+  file-refused s e =
+      sym (ap (λ (v : Verdict). retimedBy mode v (decodedNet (decode s))) (mode-judged mode s)
+      ∙ ap (λ (v : Verdict). retimedBy mode (onward v (modeVerdict mode (decodedNet (decode s)))) (decodedNet (decode s))) e)
 
-module _ {s net : List ℕ} (o : Open s net) where
-  taken-as : retimedBy (debtVerdict (netOf s net)) (netOf s net) ≡ retimedBy (rewriterVerdict s) (decodedNet (decode s))
-  unfolding rewriterVerdict fileVerdict
-  taken-as =
-      sym (ap (λ (d : Decoded). retimedBy (onward (judged d) (debtVerdict (decodedNet d))) (decodedNet d)) (o .decodes)
-      ∙ ap (λ (v : Verdict). retimedBy (onward v (debtVerdict (netOf s net))) (netOf s net)) (o .fine))
+  module _ {s net : List ℕ} (o : Open s net) where
+    taken-as : retimedBy mode (modeVerdict mode (netOf s net)) (netOf s net) ≡ retimedBy mode (modeFileVerdict mode s) (decodedNet (decode s))
+    unfolding fileVerdict
+    taken-as =
+        sym (ap (λ (v : Verdict). retimedBy mode v (decodedNet (decode s))) (mode-judged mode s)
+        ∙ ap (λ (d : Decoded). retimedBy mode (onward (judged d) (modeVerdict mode (decodedNet d))) (decodedNet d)) (o .decodes)
+        ∙ ap (λ (v : Verdict). retimedBy mode (onward v (modeVerdict mode (netOf s net))) (netOf s net)) (o .fine))
 
-  pub file-taken : {l : List ℕ} {r : Retimed} → Lays s l (netOf s net) (retimedBy (debtVerdict (netOf s net)) (netOf s net)) r → LaysFile s l r
-  file-taken (t, laid) = (t ∙ taken-as, λ m e. let h = laid m e in (h .0 ∙ ap (λ (d : Decoded). rewritten (decodedNet d)) (sym (o .decodes)), h .1))
+    pub file-taken : {l : List ℕ} {r : Retimed} → Lays s l mode (netOf s net) (retimedBy mode (modeVerdict mode (netOf s net)) (netOf s net)) r → LaysFile mode s l r
+    file-taken (t, laid) = (t ∙ taken-as, λ m e. let h = laid m e in (h .0 ∙ ap (λ (d : Decoded). modeNet mode (decodedNet d)) (sym (o .decodes)), h .1))

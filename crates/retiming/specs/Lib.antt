@@ -70,6 +70,7 @@ pub mod LateStart
 pub mod LateRefusals
 pub mod Modes
 pub mod ModeLaws
+pub mod ModeFiles
 pub mod Computing
 pub mod Bench
 pub mod LateBench

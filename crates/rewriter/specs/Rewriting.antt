@@ -1,4 +1,4 @@
--- The rewriting of a file whose rewritten netlist is laid as a circuit. Assumes nothing.
+-- The rewriting of a file whose new netlist is laid as a circuit. Assumes nothing.
 use mathlib.Core.Path.{_≡_, sym, ap, _∙_}
 use mathlib.Core.Logic.{⊎-elim}
 use mathlib.Core.Bool.{true, false}
@@ -10,17 +10,17 @@ use lib.Dec.{ltb}
 use borrow.Author.Tests.{ltb-false}
 use Rattle.lists.specs.BelowLaws.{true-or-false}
 use Rattle.netlist.specs.Net.{Net}
-use Rattle.netlist.specs.File.{Decoded, decode, decodedNet, encode}
+use Rattle.netlist.specs.File.{encode}
 use Rattle.netlist.specs.declared.Answer.{Answer}
 use Rattle.netlist.specs.declared.Answer.the-variants.{Accepted, Refused}
 use Rattle.netlist.specs.declared.Verdict.{Verdict}
 use Rattle.netlist.specs.declared.Verdict.the-variants.{Fine, Refuses}
 use Rattle.circuit.specs.Circuit.{netOf}
-use Rattle.retiming.specs.Rewrite.{rewritten}
-use Rattle.retiming.specs.FileRewrite.{rewriterVerdict, IsAccepted, rewrittenFile, Rewrote, writtenBy, written, writtenAfter, rewriteFile}
+use Rattle.retiming.specs.declared.Mode.{Mode}
+use Rattle.retiming.specs.FileRewrite.{Rewrote, writtenBy, written, writtenAfter}
 use Rattle.retiming.specs.OutLaws.{out-short, out-long}
-use Rattle.retiming.specs.RewrittenFile.{past-13, file-is}
-use Rattle.retiming.specs.PreviewLaws.{refused-written}
+use Rattle.retiming.specs.Modes.{modeFileVerdict, modeFile, modeRewrite}
+use Rattle.retiming.specs.ModeFiles.{mode-rewrite, mode-file}
 use Rattle.retime.specs.declared.Retimed.{Retimed}
 use Rattle.retime.specs.declared.Retimed.the-variants.{Laid}
 use Rattle.retime.specs.declared.Retimed.the-variants as retimed
@@ -42,20 +42,16 @@ long-enough b out h = sym (ap (λ (v : Verdict). writtenBy v b out) (out-long b 
 
 -- ---- by what is laid
 
-accepted-file : (s : List ℕ) → IsAccepted s → encode (rewritten (decodedNet (decode s))) ≡ rewrittenFile s
-accepted-file s a = let t = past-13 s a in ap (λ (d : Decoded). encode (rewritten (decodedNet d))) (t .reads) ∙ sym (file-is s t)
+module _ (mode : Mode) {s l : List ℕ} {r : Retimed} (t : LaysFile mode s l r) (out : List ℕ) where
+  pub laid-none : {k p : ℕ} → r ≡ retimed.Refused k p → record { answer = Refused k p; out = out } ≡ modeRewrite mode s out
+  laid-none q = sym (mode-rewrite mode s out ∙ ap (λ (v : Verdict). writtenAfter v (modeFile mode s) out) (laid-refused mode t q))
 
-module _ {s l : List ℕ} {r : Retimed} (t : LaysFile s l r) (out : List ℕ) where
-  pub laid-none : {k p : ℕ} → r ≡ retimed.Refused k p → record { answer = Refused k p; out = out } ≡ rewriteFile s out
-  laid-none q = sym (refused-written s (laid-refused t q) out)
-
-  pub laid-written : {m : ℕ} → r ≡ Laid m → written (encode (netOf s l)) out ≡ rewriteFile s out
-  unfolding rewriteFile
+  pub laid-written : {m : ℕ} → r ≡ Laid m → written (encode (netOf s l)) out ≡ modeRewrite mode s out
   laid-written q =
-      let (accepted, lead, laid) = laid-accepted t q in
+      let (accepted, lead, laid) = laid-accepted mode t q in
       ap (λ (M : Net). written (encode M) out) (laid .0)
-      ∙ ap (λ (b : List ℕ). written b out) (accepted-file s accepted)
-      ∙ sym (ap (λ (v : Verdict). writtenAfter v (rewrittenFile s) out) accepted)
+      ∙ ap (λ (b : List ℕ). written b out) (mode-file mode s accepted)
+      ∙ sym (mode-rewrite mode s out ∙ ap (λ (v : Verdict). writtenAfter v (modeFile mode s) out) accepted)
 
 -- ---- an accepted length is within the output
 
@@ -76,6 +72,8 @@ unfolding lengthOf
 after-inside Fine b out = written-inside b out
 after-inside (Refuses k p) b out = zero-le
 
-pub accepted-inside : (s out : List ℕ) {r : Answer} {n : ℕ} → r ≡ rewriteFile s out .answer → r ≡ Accepted n → n ≤ length out
-unfolding rewriteFile lengthOf
-accepted-inside s out {n = n} e q = let l : lengthOf (Accepted n) ≡ lengthOf (rewriteFile s out .answer) = ap lengthOf (sym q ∙ e) in omega (arith, after-inside (rewriterVerdict s) (rewrittenFile s) out)
+pub accepted-inside : (mode : Mode) (s out : List ℕ) {r : Answer} {n : ℕ} → r ≡ modeRewrite mode s out .answer → r ≡ Accepted n → n ≤ length out
+unfolding lengthOf
+accepted-inside mode s out {n = n} e q =
+    let l : lengthOf (Accepted n) ≡ lengthOf (writtenAfter (modeFileVerdict mode s) (modeFile mode s) out .answer) = ap lengthOf (sym q ∙ e ∙ ap (λ (w : Rewrote). w .answer) (mode-rewrite mode s out)) in
+    omega (arith, after-inside (modeFileVerdict mode s) (modeFile mode s) out)

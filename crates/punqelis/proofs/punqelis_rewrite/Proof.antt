@@ -2,6 +2,7 @@
 use mathlib.Core.Path.{sym, ap, subst, _∙_}
 use native.Mathlib.Omega.{arith}
 use borrow.Author.Needs.{needs}
+use Rattle.retiming.specs.declared.Mode.the-variants.{Plain}
 use Rattle.punqelis.specs.Code.{asNumber}
 use Rattle.punqelis.specs.CodeLaws.{LengthWithin}
 use Rattle.punqelis.specs.RewriteLaws.{rewrite-within}
@@ -12,7 +13,7 @@ rewrite-file-requires : tie.Need-rewrite-file-requires
 rewrite-file-requires c κs = search needs
 
 code-requires : tie.Need-code-requires
-code-requires c κs = subst (LengthWithin 65535) (sym (c .before .before .rewrite-file .ensures .0)) (rewrite-within (c .before .before .before .before .before .before .args .file .now) (c .before .before .before .before .before .before .args .out .now) (λ i. omega (arith, c .before .before .before .before .before .shared-slice-known .given i)))
+code-requires c κs = subst (LengthWithin 65535) (sym (c .before .before .rewrite-file .ensures .0)) (rewrite-within Plain (c .before .before .before .before .before .before .args .file .now) (c .before .before .before .before .before .before .args .out .now) (λ i. omega (arith, c .before .before .before .before .before .shared-slice-known .given i)))
 
 same-length : tie.Need-same-length
 same-length c = search needs
