@@ -1,10 +1,10 @@
 -- The new netlist of a file in either mode, laid as a circuit, check by check. Assumes nothing.
 use mathlib.Core.Path.{_≡_, refl, sym, ap, subst, _∙_}
 use mathlib.Core.Bool.{true, false}
-use mathlib.Core.List.{List, [], _∷_, _++_, map}
+use mathlib.Core.List.{List, [], _∷_}
 use Prim.Native.Nat.{ℕ, _≤_, _<_}
 use native.Mathlib.Omega.{arith}
-use lib.ListN.{length, getD, take, length-append, length-map}
+use lib.ListN.{length, getD, take}
 use lib.Seq.{getD-take}
 use lib.Dec.{ltb, lit<}
 use borrow.Author.Tests.{lt-ltb, le-ltb}
@@ -21,8 +21,8 @@ use Rattle.behaviour.specs.Run.{zeroWord}
 use Rattle.retiming.specs.declared.Mode.{Mode}
 use Rattle.retiming.specs.declared.Mode.the-variants.{Plain, Late}
 use Rattle.retiming.specs.Leads.{closedDebt}
-use Rattle.retiming.specs.Rewrite.{places, timing}
-use Rattle.retiming.specs.Gates.{Spot, Old, chainSpots, pickSpots, spots, gatedWith}
+use Rattle.retiming.specs.Rewrite.{timing}
+use Rattle.retiming.specs.Gates.{spots, gatedWith}
 use Rattle.retiming.specs.Candidate.{size-new}
 use Rattle.retiming.specs.Debt.{grown}
 use Rattle.retiming.specs.Preview.{largestLead}
@@ -56,14 +56,6 @@ module _ (mode : Mode) (N : Net) (is : NewIs mode N) where
   pub says-fine : length (spots N (modeTiming mode N) (zeroWord N)) ≤ 1024 → Fine ≡ grownVerdict mode N
   unfolding grownVerdict verdict grown
   says-fine h = let g : ltb 1024 (size (modeNet mode N)) ≡ false = le-ltb 1024 (size (modeNet mode N)) (omega (arith, new-size)) in sym (rw (g, verdict))
-
-  -- the gates come on top of the places
-  pub says-13-places : 1024 < length (places N (modeTiming mode N) (zeroWord N)) → Refuses 13 65535 ≡ grownVerdict mode N
-  unfolding spots
-  says-13-places h =
-      let old : List Spot = map Old (places N (modeTiming mode N) (zeroWord N)) in
-      let rest : List Spot = chainSpots N (modeTiming mode N) (zeroWord N) ++ pickSpots N (modeTiming mode N) (zeroWord N) in
-      says-13 (omega (arith, length-append old rest, length-map (places N (modeTiming mode N) (zeroWord N)) Old))
 
 -- ---- what is answered, and what is then laid
 

@@ -47,11 +47,15 @@ fn lay_timed(file: &[u8], net: &[u16], mode: Mode, timing: &[u16], new: &mut [u1
     first_clock(file, net, &mut start);
     let mut plan = [0u16; PLAN];
     // Until the circuit is laid, its area is the wires', and then the queue's.
-    let made = make_plan(file, net, mode, timing, &start, &mut new[..WIRES], &mut plan);
-    let wired = made.total;
-    if 1024 < wired {
-        return Verdict::Refuses(13, 65535);
-    }
+    let made = make_plan(
+        file,
+        net,
+        mode,
+        timing,
+        &start,
+        &mut new[..WIRES],
+        &mut plan,
+    );
     let steered = add_gates(file, net, timing, made, &mut plan);
     let total = steered.total;
     if 1024 < total {

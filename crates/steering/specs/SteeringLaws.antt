@@ -181,6 +181,10 @@ module _ (N : Net) (f : Timing) (plan : List ℕ) where
         over = λ o. absurd (omega arith);
       }
 
+  -- there are too many nodes without gates
+  pub steering-over : {entries total : ℕ} → PlanLaid N f plan entries total → 1024 < total → Steering N f plan entries total 0 total
+  steering-over p h = record { exact = λ o. absurd (omega arith); over = λ o. omega (arith, p .over h, spots-length N f) }
+
   pub steering-all : {entries wired chain total : ℕ} → entries ≡ entryCount N f → wired ≡ length (places N f (zeroWord N)) → chain ≡ chainLength N f (zeroWord N)
       → AllGated N f (ownersIn plan) (wordsIn plan) (lateIn plan) (sourcesIn plan) total → Steering N f plan entries wired chain total
   steering-all a b c g = record { exact = λ o. all-gated (g .exact o) o a b c; over = λ o. omega (arith, g .over o, spots-length N f) }

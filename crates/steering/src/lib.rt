@@ -38,12 +38,21 @@ fn chain_nodes(chain: usize) -> usize
 pub fn add_gates(file: &[u8], net: &[u16], timing: &[u16], made: Plan, plan: &mut [u16]) -> Steered
     ghost { Net }
     requires { λ N. opened 𝓤 (now file) (now net) N (Timed N (modeTiming (made .mode) N) (now timing) × (length (now timing) ≡ 3072) × (length (now plan) ≡ 7168)
-        × PlanLaid N (modeTiming (made .mode) N) (now plan) (made .entries) (made .total) × (made .total ≤ 1024)) }
+        × PlanLaid N (modeTiming (made .mode) N) (now plan) (made .entries) (made .total)) }
     ensures { λ N r. ⌜ Steering N (modeTiming (made .mode) N) (now (plan .exit)) (r .entries) (r .wired) (r .chain) (r .total) × (r .mode ≡ made .mode) ⌝ }
 {
     let mode = made.mode;
     let entries = made.entries;
     let wired = made.total;
+    if 1024 < wired {
+        return Steered {
+            mode,
+            entries,
+            wired,
+            chain: 0,
+            total: wired,
+        };
+    }
     match mode {
         Mode::Plain => Steered {
             mode,
