@@ -10,13 +10,12 @@ use lib.ListN.{getD}
 use Rattle.lists.specs.BelowLaws.{true-or-false}
 use Rattle.netlist.specs.Net.{Net, size, Sourced}
 use Rattle.retiming.specs.Leads.{asyncHere, registerHere}
-use Rattle.retiming.specs.AtMostRoms.{romCount}
+use Rattle.retiming.specs.AtMostRoms.{romCount, late-at-most-roms}
 use Rattle.retiming.specs.Rewrite.{Timing}
 use Rattle.retiming.specs.LateLeads.{origin, leadTo, closedDebtTo}
 use Rattle.retiming.specs.LateLeadsLaws.{lead-bounds-walk}
 use Rattle.retiming.specs.LateLargest.{told-debtless, leads-pinned}
 use Rattle.retiming.specs.LateSearch.{Searched, searched-tells}
-use Rattle.retiming.specs.LateAtMostRoms.{late-at-most-roms}
 use Rattle.leads.specs.Progress.{Walked, Quiet}
 
 -- the numbers are those of a timing

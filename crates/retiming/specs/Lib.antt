@@ -15,13 +15,12 @@ pub mod Wires
 pub mod Owing
 pub mod Largest
 pub mod Least
-pub mod AtMostRoms
 pub mod PortWalks
 pub mod LateLeadsLaws
 pub mod LateLargest
 pub mod LateSearch
-pub mod LateAtMostRoms
 pub mod Anywhere
+pub mod AtMostRoms
 pub mod Layout
 pub mod GatesLayout
 pub mod Ungated

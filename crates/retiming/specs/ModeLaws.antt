@@ -15,9 +15,8 @@ use Rattle.behaviour.specs.Run.{zeroWord}
 use Rattle.retiming.specs.declared.Mode.{Mode}
 use Rattle.retiming.specs.declared.Mode.the-variants.{Plain, Late}
 use Rattle.retiming.specs.Leads.{lead, portDebt}
-use Rattle.retiming.specs.AtMostRoms.{romCount, lead-at-most-roms}
+use Rattle.retiming.specs.AtMostRoms.{romCount, lead-at-most-roms, late-at-most-roms}
 use Rattle.retiming.specs.LateLeads.{lateEnds, origin, leadTo, portDebtTo}
-use Rattle.retiming.specs.LateAtMostRoms.{late-at-most-roms}
 use Rattle.retiming.specs.Rewrite.{Timing, timingBy, timing}
 use Rattle.retiming.specs.LateRewrite.{timingToBy, timingTo, lateTiming, lateStarted}
 use Rattle.retiming.specs.Gates.{gatedWith}
