@@ -22,8 +22,8 @@ use Rattle.behaviour.specs.Run.{zeroWord}
 use Rattle.retiming.specs.Rewrite.{Timing, Place, Entry, Reg, root, memoryAt, stays, copyOn, copiesAt, copiesOf, copies, entriesOf, entryPlaces}
 use Rattle.retiming.specs.Layout.{noPlace}
 use Rattle.lists.specs.Threes.{concat-next, concat-longer, inRow, row-of-three, in-threes}
-use Rattle.wiring.specs.Wiring.{wiresTo, wireCount, wireAt, WiredTo, Copied}
-use Rattle.wiring.specs.WiringLaws.{wires-few, count-wires}
+use Rattle.wiring.specs.Wiring.{wireCount, wireAt, WiredTo, Copied}
+use Rattle.wiring.specs.WiringLaws.{wires-few, count-wires, by-wires}
 use Rattle.wiring.specs.Links.{From}
 use Rattle.plan.specs.Areas.{ownersIn, wordsIn, lateIn, firstsIn}
 use Rattle.plan.specs.Entries.{Finds, Stored, Placing, Adds, wantedOf, Wants, AddsAll, entriesBefore, Firsts, AllPlaced}
@@ -232,23 +232,8 @@ module _ {N : Net} {f : Timing} {ends froms clocks : List ℕ} (copied : List �
 
   -- the wires to x: none where it is a register, or left out
   copies-row : (x : ℕ) → copied-to x ≡ concatMap (copiesAt N f (zeroWord N) u x) (below (wireCount N f x))
-  unfolding copiesOf stays wireCount
-  copies-row x = by-element (f .keeps x) (elementAt N x)
-    where
-      by-element : (k : Bool) (e : Element)
-          → cond (not (isRegister e) && k) (concatMap (copiesAt N f (zeroWord N) u x) (below (operands e))) [] ≡ concatMap (copiesAt N f (zeroWord N) u x) (below (cond k (wiresTo e) 0))
-      by-element true Input = refl
-      by-element true Output = refl
-      by-element true (Register r) = refl
-      by-element true (Async m) = refl
-      by-element true (Clocked m r) = refl
-      by-element true (Gate o) = refl
-      by-element false Input = refl
-      by-element false Output = refl
-      by-element false (Register r) = refl
-      by-element false (Async m) = refl
-      by-element false (Clocked m r) = refl
-      by-element false (Gate o) = refl
+  unfolding copiesOf
+  copies-row x = by-wires N f x (λ n. concatMap (copiesAt N f (zeroWord N) u x) (below n))
 
   pub all-wanted : concatMap (copiesOf N f (zeroWord N) u) (below (size N)) ≡ wantedOf ends copied u (3 * size N)
   all-wanted = in-threes copied-to h (size N) (λ x k.

@@ -1,7 +1,7 @@
 -- The gates of a wire counted, and the chain that steers them all, from what the timing area holds. Assumes nothing.
 use mathlib.Core.Path.{_≡_, refl, sym, ap, ap₂, _∙_}
 use mathlib.Core.Logic.{⊎-elim}
-use mathlib.Core.Bool.{Bool, true, false, cond, not, _&&_}
+use mathlib.Core.Bool.{Bool, cond}
 use mathlib.Core.List.{List}
 use Prim.Native.Nat.{ℕ, zero, suc, _+_, _-_, _≤_, _<_, max}
 use native.Mathlib.Numerals.{add-one}
@@ -10,17 +10,15 @@ use lib.ListN.{getD}
 use lib.Dec.{ltb}
 use borrow.Author.Tests.{lt-ltb, le-ltb}
 use Rattle.lists.specs.Lists.{one, largest}
-use Rattle.lists.specs.BelowLaws.{lt-or-le, largest-is}
-use Rattle.netlist.specs.declared.Element.{Element}
-use Rattle.netlist.specs.declared.Element.the-variants.{Input, Output, Register, Async, Clocked, Gate}
-use Rattle.netlist.specs.Net.{Net, size, elementAt, source, operands, isRegister, isClocked}
+use Rattle.lists.specs.BelowLaws.{lt-or-le}
+use Rattle.netlist.specs.Net.{Net, size, elementAt, source, isClocked}
 use Rattle.behaviour.specs.Run.{zeroWord}
-use Rattle.retiming.specs.Rewrite.{Timing, root, passed, ownHere, stays, oldOn}
+use Rattle.retiming.specs.Rewrite.{Timing, root, passed, ownHere, oldOn}
 use Rattle.retiming.specs.Gates.{firstOn, lastOn, shownOn, steersOn, steersOf, chainLength}
 use Rattle.retiming.specs.GatesLayout.{shown-early, shown-range, steers-none}
 use Rattle.retiming.specs.GatesCounts.{shown-count}
-use Rattle.wiring.specs.Wiring.{Ready, wiresTo, wireCount}
-use Rattle.wiring.specs.WiringLaws.{one-few, is-root, root-inside, passed-small}
+use Rattle.wiring.specs.Wiring.{Ready, wireCount}
+use Rattle.wiring.specs.WiringLaws.{one-few, is-root, root-inside, passed-small, by-wires}
 
 -- by the operand's source
 unfoldable pub shownFrom : Net → Timing → ℕ → ℕ → ℕ
@@ -88,22 +86,8 @@ module _ (N : Net) (f : Timing) (x s : ℕ) {shown : ℕ} (e : shown ≡ shownFr
 
 module _ (N : Net) (f : Timing) where
   pub steers-of : (x : ℕ) → largest (wireCount N f x) (steersOn N f (zeroWord N) x) ≡ steersOf N f (zeroWord N) x
-  unfolding steersOf stays wireCount
-  steers-of x = by-element (f .keeps x) (elementAt N x)
-    where
-      by-element : (k : Bool) (e : Element) → largest (cond k (wiresTo e) 0) (steersOn N f (zeroWord N) x) ≡ cond (not (isRegister e) && k) (largest (operands e) (steersOn N f (zeroWord N) x)) 0
-      by-element true Input = refl
-      by-element true Output = refl
-      by-element true (Register r) = refl
-      by-element true (Async m) = refl
-      by-element true (Clocked m r) = refl
-      by-element true (Gate o) = refl
-      by-element false Input = refl
-      by-element false Output = refl
-      by-element false (Register r) = refl
-      by-element false (Async m) = refl
-      by-element false (Clocked m r) = refl
-      by-element false (Gate o) = refl
+  unfolding steersOf
+  steers-of x = sym (by-wires N f x (λ n. largest n (steersOn N f (zeroWord N) x)))
 
   pub chain-is : largest (size N) (steersOf N f (zeroWord N)) ≡ chainLength N f (zeroWord N)
   unfolding chainLength

@@ -1,7 +1,7 @@
 -- Wires counted and entered, over plain values. Assumes nothing.
 use mathlib.Core.Path.{_≡_, refl, sym, ap, ap₂, subst, _∙_}
 use mathlib.Core.Logic.{_⊎_, ⊎-elim}
-use mathlib.Core.Bool.{Bool, true, false, cond, true≢false, false≢true}
+use mathlib.Core.Bool.{Bool, true, false, cond, not, _&&_, true≢false, false≢true}
 use mathlib.Core.List.{List}
 use Prim.Native.Nat.{ℕ, suc, _+_, _-_, _*_, _/_, _%_, _≤_, _<_}
 use native.Mathlib.Nat.{le-refl}
@@ -15,7 +15,8 @@ use Rattle.lists.specs.BelowLaws.{true-or-false, lt-suc-split, lt-or-le, bit-tr
 use Rattle.netlist.specs.declared.Element.{Element}
 use Rattle.netlist.specs.declared.Element.the-variants.{Input, Output, Register, Async, Clocked, Gate}
 use Rattle.netlist.specs.Net.{Net, size, elementAt, source, operands, isRegister, isAsync, isMemory, isClocked, Sourced}
-use Rattle.retiming.specs.Rewrite.{Timing, root, ownHere, memoryAt}
+use Rattle.behaviour.specs.Run.{zeroWord}
+use Rattle.retiming.specs.Rewrite.{Timing, root, ownHere, memoryAt, stays}
 use Rattle.retiming.specs.Wires.{root-within}
 use Rattle.wires.specs.Traced.{rootsIn, passesIn}
 use Rattle.wires.specs.TracedLaws.{passed-few, root-at, pass-at}
@@ -223,6 +224,25 @@ module _ (N : Net) (f : Timing) (x : ℕ) where
 
   pub count-wires : wireCount N f x ≤ wiresTo (elementAt N x)
   count-wires = ⊎-elim (λ k. omega (arith, count-kept k)) (λ k. omega (arith, count-left k)) (true-or-false (f .keeps x))
+
+  -- what is told of all operands where the node stays and is no register, and else of none, is told of its wires
+  pub by-wires : {A : Type 0} (g : ℕ → A) → cond (stays N f (zeroWord N) x) (g (operands (elementAt N x))) (g 0) ≡ g (wireCount N f x)
+  unfolding stays wireCount
+  by-wires {A} g = by-element (f .keeps x) (elementAt N x)
+    where
+      by-element : (k : Bool) (e : Element) → cond (not (isRegister e) && k) (g (operands e)) (g 0) ≡ g (cond k (wiresTo e) 0)
+      by-element true Input = refl
+      by-element true Output = refl
+      by-element true (Register r) = refl
+      by-element true (Async m) = refl
+      by-element true (Clocked m r) = refl
+      by-element true (Gate o) = refl
+      by-element false Input = refl
+      by-element false Output = refl
+      by-element false (Register r) = refl
+      by-element false (Async m) = refl
+      by-element false (Clocked m r) = refl
+      by-element false (Gate o) = refl
 
   pub count-keeps : 0 < wireCount N f x → f .keeps x ≡ true
   count-keeps h = ⊎-elim (λ k. k) (λ k. absurd (omega (arith, count-left k))) (true-or-false (f .keeps x))
