@@ -1,10 +1,11 @@
--- The element of an old node, made new in its row: a ROM's code becomes that of a clocked one, and its number the reset word. Assumes nothing.
+-- The rows of the new nodes. In that of an old node a ROM's code becomes that of a clocked one, and its number the reset word. Assumes nothing.
 use mathlib.Core.Path.{_≡_, refl, sym, ap, subst, _∙_}
 use mathlib.Core.Bool.{Bool, cond}
-use mathlib.Core.List.{List}
+use mathlib.Core.List.{List, [], _∷_}
 use Prim.Native.Nat.{ℕ, _+_, _<_}
 use native.Mathlib.Omega.{arith}
 use Rattle.lists.specs.Lists.{one}
+use Rattle.words.specs.declared.Op.the-variants.{Constant, Choose}
 use Rattle.netlist.specs.declared.Element.{Element}
 use Rattle.netlist.specs.declared.Element.the-variants.{Input, Output, Register, Async, Clocked, Gate}
 use Rattle.netlist.specs.declared.Node.{Node}
@@ -59,12 +60,19 @@ memory-one (Gate o) = refl
 
 -- ---- the row of an element, and of its node
 
--- old node u made new, and a register as wide as it, over what they read
+-- old node u made new, over what it reads
 abbrev pub entryNode : Net → ℕ → ℕ → List ℕ → Node
 entryNode N u word xs = record { element = newElement (elementAt N u) (tableOf (elementAt N u)) word; width = widthAt N u; sources = xs }
 
-abbrev pub registerNode : Net → ℕ → ℕ → List ℕ → Node
-registerNode N u word xs = record { element = Register word; width = widthAt N u; sources = xs }
+-- a register, a constant, and a gate that chooses, of a width
+abbrev pub registerNode : ℕ → ℕ → ℕ → Node
+registerNode w word from = record { element = Register word; width = w; sources = from ∷ 0 ∷ 0 ∷ [] }
+
+abbrev pub constantNode : ℕ → ℕ → Node
+constantNode w value = record { element = Gate (Constant value); width = w; sources = 0 ∷ 0 ∷ 0 ∷ [] }
+
+abbrev pub chooseNode : ℕ → List ℕ → Node
+chooseNode w xs = record { element = Gate Choose; width = w; sources = xs }
 
 abbrev pub RowOf : Row → Node → Type 0
 RowOf r x = Fits r × (rowNode r ≡ x)
@@ -112,8 +120,19 @@ module _ (s l : List ℕ) (o : Circuit s l) (u : ℕ) (h : u < size (netOf s l))
           let p = part-number e (omega (arith, code, r)) in
           omega (arith, k-is, p .0, part-small s l o u h code number (code ∙ p .1))
 
-  pub register-row : {w : ℕ} → (w ≡ widthAt N u) × (w < 256)
-      → RowOf (record { code = 2; width = w; count = 1; sources = xs; number = word; table = 0 }) (registerNode N u word xs)
-  register-row width =
-      let x = registerNode N u word xs in
-      (row-fits x 0 0 (width .0) refl refl refl refl refl (width .1) (omega arith) (λ g. absurd (omega arith)), row-node x 0 0 (width .0) refl refl refl refl refl)
+-- the rows of nodes that have no table, and are no parts
+module _ {w : ℕ} (h : w < 256) where
+  plain-row : (x : Node) {c n k : ℕ} → w ≡ x .width → c ≡ codeOf (x .element) → n ≡ operands (x .element) → k ≡ numberOr 0 (x .element) → 0 ≡ tableOr 0 (x .element)
+      → (codeOf (x .element) ≡ 18 → ⊥)
+      → RowOf (record { code = c; width = w; count = n; sources = x .sources; number = k; table = 0 }) x
+  plain-row x width code count number table other =
+      (row-fits x 0 0 width refl code count number table h (omega arith) (λ g. absurd (other g)), row-node x 0 0 width refl code count number table)
+
+  pub register-row : (word from : ℕ) → RowOf (record { code = 2; width = w; count = 1; sources = from ∷ 0 ∷ 0 ∷ []; number = word; table = 0 }) (registerNode w word from)
+  register-row word from = plain-row (registerNode w word from) refl refl refl refl refl (λ g. omega arith)
+
+  pub constant-row : (value : ℕ) → RowOf (record { code = 8; width = w; count = 0; sources = 0 ∷ 0 ∷ 0 ∷ []; number = value; table = 0 }) (constantNode w value)
+  constant-row value = plain-row (constantNode w value) refl refl refl refl refl (λ g. omega arith)
+
+  pub choose-row : (xs : List ℕ) → RowOf (record { code = 17; width = w; count = 3; sources = xs; number = 0; table = 0 }) (chooseNode w xs)
+  choose-row xs = plain-row (chooseNode w xs) refl refl refl refl refl (λ g. omega arith)

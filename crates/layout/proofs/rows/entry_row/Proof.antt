@@ -1,8 +1,8 @@
 -- Each word of the row by its reader.
 use Rattle.layout.specs.NewRow.{entry-row}
 use borrow.Author.Needs.{needs}
-use Rattle.layout.proofs.entry_row.Statement.{statement}
-use Rattle.layout.proofs.entry_row.Tie as tie
+use Rattle.layout.proofs.rows.entry_row.Statement.{statement}
+use Rattle.layout.proofs.rows.entry_row.Tie as tie
 
 async-rom-requires : tie.Need-async-rom-requires
 async-rom-requires c κs = search needs
