@@ -1,15 +1,15 @@
 // The planned netlist as a circuit: the tables as they came, and each node as it is planned.
-mod gates;
+mod added;
 pub mod reset;
 mod rows;
 
+use added::gate_row;
 use areas::read_at;
 use circuit::Row;
 use circuit::push_row;
 use circuit::source_count;
 use circuit::wide;
 use circuit::width_of;
-use gates::gate_row;
 use opening::copy_head;
 use plan::SOURCES;
 use rows::entry_row;

@@ -3,8 +3,8 @@ use native.Mathlib.Omega.{arith}
 use Rattle.layout.specs.NewRow.{row-as}
 use Rattle.layout.specs.PlannedNode.{node-by}
 use borrow.Author.Needs.{needs}
-use Rattle.layout.proofs.gates.gate_row.Statement.{statement}
-use Rattle.layout.proofs.gates.gate_row.Tie as tie
+use Rattle.layout.proofs.added.gate_row.Statement.{statement}
+use Rattle.layout.proofs.added.gate_row.Tie as tie
 
 sub-behind : tie.Need-sub-behind
 sub-behind c = search needs

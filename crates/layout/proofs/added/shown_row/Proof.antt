@@ -6,8 +6,8 @@ use Rattle.plan.specs.Areas.{ownersIn, lateIn, sourcesIn}
 use Rattle.layout.specs.NewRow.{row-as}
 use Rattle.layout.specs.PlannedNode.{owner-read, late-read, constant-as, gate-as}
 use borrow.Author.Needs.{needs}
-use Rattle.layout.proofs.gates.shown_row.Statement.{statement}
-use Rattle.layout.proofs.gates.shown_row.Tie as tie
+use Rattle.layout.proofs.added.shown_row.Statement.{statement}
+use Rattle.layout.proofs.added.shown_row.Tie as tie
 
 read-at-requires : tie.Need-read-at-requires
 read-at-requires c κs = search needs
