@@ -45,17 +45,25 @@ grownVerdict mode N = verdict (ofWhole 13 (λ v. grown (modeNet mode N)) ∷ [])
 abbrev pub NewIs : Mode → Net → Type 0
 NewIs mode N = gatedWith N (modeTiming mode N) (zeroWord N) ≡ modeNet mode N
 
-module _ (mode : Mode) (N : Net) (is : NewIs mode N) where
-  new-size : size (modeNet mode N) ≡ length (spots N (modeTiming mode N) (zeroWord N))
-  new-size = sym (ap size is) ∙ size-new N (modeTiming mode N) (zeroWord N)
+-- l is a circuit of the netlist, over the tables of the file s
+abbrev pub IsCircuit : List ℕ → List ℕ → Net → Type 0
+IsCircuit s l M = (netOf s l ≡ M) × Circuit s l
 
-  pub says-13 : 1024 < length (spots N (modeTiming mode N) (zeroWord N)) → Refuses 13 65535 ≡ grownVerdict mode N
+-- the plan was made in the mode that is asked for
+module _ (mode : Mode) (N : Net) (is : NewIs mode N) {made : Mode} (same : made ≡ mode) where
+  new-size : size (modeNet mode N) ≡ length (spots N (modeTiming made N) (zeroWord N))
+  new-size = sym (ap size is) ∙ size-new N (modeTiming mode N) (zeroWord N) ∙ ap (λ (m : Mode). length (spots N (modeTiming m N) (zeroWord N))) (sym same)
+
+  pub says-13 : 1024 < length (spots N (modeTiming made N) (zeroWord N)) → Refuses 13 65535 ≡ grownVerdict mode N
   unfolding grownVerdict verdict grown
   says-13 h = let g : ltb 1024 (size (modeNet mode N)) ≡ true = lt-ltb 1024 (size (modeNet mode N)) (omega (arith, new-size)) in sym (rw (g, verdict))
 
-  pub says-fine : length (spots N (modeTiming mode N) (zeroWord N)) ≤ 1024 → Fine ≡ grownVerdict mode N
+  pub says-fine : length (spots N (modeTiming made N) (zeroWord N)) ≤ 1024 → Fine ≡ grownVerdict mode N
   unfolding grownVerdict verdict grown
   says-fine h = let g : ltb 1024 (size (modeNet mode N)) ≡ false = le-ltb 1024 (size (modeNet mode N)) (omega (arith, new-size)) in sym (rw (g, verdict))
+
+  pub laid-new : {s l : List ℕ} → IsCircuit s l (gatedWith N (modeTiming made N) (zeroWord N)) → IsCircuit s l (modeNet mode N)
+  laid-new (n, k) = (n ∙ ap (λ (m : Mode). gatedWith N (modeTiming m N) (zeroWord N)) same ∙ is, k)
 
 -- ---- what is answered, and what is then laid
 
@@ -71,20 +79,13 @@ pub lead-plain : (N : Net) {mode : Mode} {m : ℕ} → mode ≡ Plain → m ≡ 
 lead-plain N e q = q ∙ ap (λ (m : Mode). modeLead m N) (sym e)
 
 -- what the plain mode's largest lead is found from
-pub plain-leads : (N : Net) {mode : Mode} {leads : List ℕ} → mode ≡ Plain → modeClosed mode N ≡ false → LeadsIn N (modeTiming mode N) leads → (closedDebt N ≡ false) × LeadsIn N (timing N) leads
-plain-leads N {leads = leads} e d l = (ap (λ (m : Mode). modeClosed m N) (sym e) ∙ d, subst (λ (m : Mode). LeadsIn N (modeTiming m N) leads) e l)
+pub plain-leads : (N : Net) (leads : List ℕ) {mode : Mode} → mode ≡ Plain → modeClosed mode N ≡ false → LeadsIn N (modeTiming mode N) leads → (closedDebt N ≡ false) × LeadsIn N (timing N) leads
+plain-leads N leads e d l = (ap (λ (m : Mode). modeClosed m N) (sym e) ∙ d, subst (λ (m : Mode). LeadsIn N (modeTiming m N) leads) e l)
 
 -- by the verdict
 abbrev pub retimedBy : Mode → Verdict → Net → Retimed
 retimedBy mode Fine N = Laid (modeLead mode N)
 retimedBy mode (Refuses k p) N = Refused k p
-
--- l is a circuit of the netlist, over the tables of the file s
-abbrev pub IsCircuit : List ℕ → List ℕ → Net → Type 0
-IsCircuit s l M = (netOf s l ≡ M) × Circuit s l
-
-pub circuit-as : {s l : List ℕ} {M M′ : Net} → M ≡ M′ → IsCircuit s l M → IsCircuit s l M′
-circuit-as e (n, k) = (n ∙ e, k)
 
 -- the answer is as told; and where it is no refusal, l is the new netlist's circuit
 abbrev pub Lays : List ℕ → List ℕ → Mode → Net → Retimed → Retimed → Type 0

@@ -1,9 +1,9 @@
 // The gates of a late start: document 02, T-05. On a wire from a late source they show its reader the old reset words, and one chain of registers steers them all.
 mod chain;
-mod gates;
+mod pairs;
 
 use chain::chain_length;
-use gates::gate_entries;
+use pairs::gate_entries;
 use plan::Plan;
 use retiming::Mode;
 ghost use mathlib.Core.Path.{_≡_};

@@ -1,5 +1,6 @@
 -- What opening tells, and the retiming of the netlist.
 use native.Mathlib.Omega.{arith}
+use Rattle.netlist.specs.File.{decode, decodedNet}
 use Rattle.codec.specs.Bytes.{Bytes}
 use Rattle.checks.specs.Opens.{opened-refused, opened-fine, open-formed, open-inside}
 use Rattle.retime.specs.Laying.{lays-none, file-refused, file-taken}
@@ -29,13 +30,16 @@ retime-opened-requires c κs =
     (o .circuit, (open-formed bytes o, open-inside bytes o, o .ordered, c .before .before .before .before .before .before .before .before .before .pre))
 
 returns : tie.Need-returns
-returns c = lays-none _ _ _ (file-refused _ (opened-refused (c .before .before .before .before .open-file .ensures) (c .before .number .given .1)))
+returns c =
+    let a = c .before .before .before .before .before .before .before .before .args in
+    let s = a .file .now in
+    lays-none s _ (a .mode) (decodedNet (decode s)) (file-refused (a .mode) s (opened-refused (c .before .before .before .before .open-file .ensures) (c .before .number .given .1)))
 
 same-length : tie.Need-same-length
 same-length c = search needs
 
 returns-2 : tie.Need-returns-2
-returns-2 c = file-taken (opened-fine (c .before .before .before .before .before .before .before .before .open-file .ensures) (c .before .before .before .before .before .enum-told .given .1)) (c .before .before .retime-opened .ensures)
+returns-2 c = file-taken (c .before .before .before .before .before .before .before .before .before .before .before .before .args .mode) (opened-fine (c .before .before .before .before .before .before .before .before .open-file .ensures) (c .before .before .before .before .before .enum-told .given .1)) (c .before .before .retime-opened .ensures)
 
 pub retime-file-spec : {M : Type 1} → statement M
 retime-file-spec =

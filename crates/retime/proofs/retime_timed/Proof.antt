@@ -1,4 +1,4 @@
--- 13, or laid; the leads are those that were found.
+-- 13, or laid.
 use mathlib.Core.Path.{sym, ap, _∙_}
 use Rattle.netlist.specs.declared.Verdict.{Verdict}
 use Rattle.circuit.specs.Circuit.{netOf}
@@ -16,8 +16,8 @@ enum-known-number c = search needs
 enum-told : tie.Need-enum-told
 enum-told c = search needs
 
-largest-lead-requires : tie.Need-largest-lead-requires
-largest-lead-requires c κs = let p = c .before .before .before .before .before .before .before .before .before .before .pre in (p .0, (p .1 .0 .formed .sourced, p .1 .0 .debtless, p .1 .0 .leads-in))
+lead-told-requires : tie.Need-lead-told-requires
+lead-told-requires c κs = let p = c .before .before .before .before .before .before .before .before .before .before .pre in (p .0, (p .1 .0, p .1 .6))
 
 same-length : tie.Need-same-length
 same-length c = search needs
@@ -26,7 +26,7 @@ returns : tie.Need-returns
 returns c =
     let a = c .before .before .before .before .before .before .before .before .before .before .before .args in
     let N = netOf (a .file .now) (a .net .now) in
-    lays-none _ _ N (ap (λ (v : Verdict). retimedBy v N) (sym (c .before .number .given .1) ∙ c .before .before .before .before .before .lay-timed .ensures .0))
+    lays-none _ _ (a .mode) N (ap (λ (v : Verdict). retimedBy (a .mode) v N) (sym (c .before .number .given .1) ∙ c .before .before .before .before .before .lay-timed .ensures .0))
 
 same-length-2 : tie.Need-same-length-2
 same-length-2 c = search needs
@@ -36,7 +36,7 @@ returns-2 c =
     let a = c .before .before .before .before .before .before .before .before .before .before .before .args in
     let l = c .before .before .before .before .before .lay-timed in
     let fine = c .before .enum-told .given .1 in
-    lays _ _ (netOf (a .file .now) (a .net .now)) (l .ensures .0) fine (l .ensures .1 fine) (c .largest-lead .ensures)
+    lays _ _ (a .mode) (netOf (a .file .now) (a .net .now)) (l .ensures .0) fine (l .ensures .1 fine) (c .lead-told .ensures)
 
 pub retime-timed-spec : {M : Type 1} → statement M
 retime-timed-spec =
@@ -45,7 +45,7 @@ retime-timed-spec =
     lay-timed-requires
     enum-known-number
     enum-told
-    largest-lead-requires
+    lead-told-requires
     same-length
     returns
     same-length-2

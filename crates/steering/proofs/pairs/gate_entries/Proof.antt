@@ -12,8 +12,8 @@ use Rattle.plan.specs.PlanLaws.{places-length}
 use Rattle.steering.specs.GatesTo.{GatesTo, AllGated}
 use Rattle.steering.specs.GatesArea.{gates-at}
 use Rattle.steering.specs.SteeringLaws.{gates-over, gates-all}
-use Rattle.steering.proofs.gates.gate_entries.Statement.{statement}
-use Rattle.steering.proofs.gates.gate_entries.Tie as tie
+use Rattle.steering.proofs.pairs.gate_entries.Statement.{statement}
+use Rattle.steering.proofs.pairs.gate_entries.Tie as tie
 
 abbrev Inv-loop : tie.InvT-loop
 Inv-loop file net timing plan₀ mode entries wired chain total₀ e₀ plan total e =

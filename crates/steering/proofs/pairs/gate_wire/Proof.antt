@@ -7,8 +7,8 @@ use Rattle.wiring.specs.WiringLaws.{lead-few}
 use Rattle.plan.specs.PlanLaws.{places-length}
 use Rattle.steering.specs.GatesArea.{gate-read, wire-ungated, wire-gated}
 use borrow.Author.Needs.{needs}
-use Rattle.steering.proofs.gates.gate_wire.Statement.{statement}
-use Rattle.steering.proofs.gates.gate_wire.Tie as tie
+use Rattle.steering.proofs.pairs.gate_wire.Statement.{statement}
+use Rattle.steering.proofs.pairs.gate_wire.Tie as tie
 
 read-at-requires : tie.Need-read-at-requires
 read-at-requires c κs = omega (arith, c .before .before .before .before .before .pre .1 .2, c .before .before .before .before .before .pre .1 .3, c .before .before .before .before .before .pre .1 .6, c .before .before .before .before .before .pre .1 .8 .few, places-length (netOf (c .before .before .before .before .before .args .file .now) (c .before .before .before .before .before .args .net .now)) (modeTiming (c .before .before .before .before .before .args .made .mode) (netOf (c .before .before .before .before .before .args .file .now) (c .before .before .before .before .before .args .net .now))))

@@ -3,8 +3,8 @@ use mathlib.Core.Path.{sym}
 use native.Mathlib.Omega.{arith}
 use Rattle.steering.specs.GatesLaws.{after-gate, after-last}
 use borrow.Author.Needs.{needs}
-use Rattle.steering.proofs.gates.gate_after.Statement.{statement}
-use Rattle.steering.proofs.gates.gate_after.Tie as tie
+use Rattle.steering.proofs.pairs.gate_after.Statement.{statement}
+use Rattle.steering.proofs.pairs.gate_after.Tie as tie
 
 add-if1 : tie.Need-add-if1
 add-if1 c = search needs

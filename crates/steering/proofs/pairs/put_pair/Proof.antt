@@ -2,8 +2,8 @@
 use native.Mathlib.Omega.{arith}
 use Rattle.steering.specs.PairsPut.{pair-room, pair-full}
 use borrow.Author.Needs.{needs}
-use Rattle.steering.proofs.gates.put_pair.Statement.{statement}
-use Rattle.steering.proofs.gates.put_pair.Tie as tie
+use Rattle.steering.proofs.pairs.put_pair.Statement.{statement}
+use Rattle.steering.proofs.pairs.put_pair.Tie as tie
 
 put-register-requires : tie.Need-put-register-requires
 put-register-requires c κs = search needs

@@ -7,8 +7,8 @@ use lib.ListN.{length}
 use Rattle.plan.specs.Areas.{ownersIn, wordsIn, lateIn, sourcesIn}
 use Rattle.steering.specs.GatesTo.{PutsPairs}
 use Rattle.steering.specs.PairsPut.{pairs-none, pairs-next}
-use Rattle.steering.proofs.gates.put_pairs.Statement.{statement}
-use Rattle.steering.proofs.gates.put_pairs.Tie as tie
+use Rattle.steering.proofs.pairs.put_pairs.Statement.{statement}
+use Rattle.steering.proofs.pairs.put_pairs.Tie as tie
 
 abbrev Inv-loop : tie.InvT-loop
 Inv-loop s head clock steer count start plan₀ t₀ plan t =

@@ -15,8 +15,8 @@ use Rattle.steering.specs.GatesTo.{GatesTo}
 use Rattle.steering.specs.GatesArea.{gates-at, owner-still, gates-rest}
 use Rattle.steering.specs.SteeringLaws.{gates-over, gates-stop}
 use borrow.Author.Needs.{needs}
-use Rattle.steering.proofs.gates.gate_entry.Statement.{statement}
-use Rattle.steering.proofs.gates.gate_entry.Tie as tie
+use Rattle.steering.proofs.pairs.gate_entry.Statement.{statement}
+use Rattle.steering.proofs.pairs.gate_entry.Tie as tie
 
 abbrev Inv-loop : tie.InvT-loop
 Inv-loop file net timing e plan₀ mode entries wired chain total₀ x n p₀ plan total p = (p ≤ n) × (length plan ≡ length plan₀) × GatesTo (netOf file net) (modeTiming mode (netOf file net)) (ownersIn plan) (wordsIn plan) (lateIn plan) (sourcesIn plan) (3 * e + p) total
