@@ -30,10 +30,10 @@ enum-known-answer : tie.Need-enum-known-answer
 enum-known-answer c = search needs
 
 array-share-prefix-out : tie.Need-array-share-prefix-out
-array-share-prefix-out c = omega (arith, accepted-inside _ _ _ (c .before .before .before .before .rewrite-bytes .ensures .0) (c .before .answer .given .1), c .before .before .before .before .rewrite-bytes .kept .1 .1 .0)
+array-share-prefix-out c = omega (arith, accepted-inside (c .before .before .before .before .before .before .before .before .before .before .args .mode) _ _ (c .before .before .before .before .rewrite-bytes .ensures .0) (c .before .answer .given .1), c .before .before .before .before .rewrite-bytes .kept .1 .1 .0)
 
 slice-aggregate-write-all : tie.Need-slice-aggregate-write-all
-slice-aggregate-write-all c = sym (length-take-le _ _ (omega (arith, accepted-inside _ _ _ (c .before .before .before .before .before .rewrite-bytes .ensures .0) (c .before .before .answer .given .1), c .before .before .before .before .before .rewrite-bytes .kept .1 .1 .0)))
+slice-aggregate-write-all c = sym (length-take-le _ _ (omega (arith, accepted-inside (c .before .before .before .before .before .before .before .before .before .before .before .args .mode) _ _ (c .before .before .before .before .before .rewrite-bytes .ensures .0) (c .before .before .answer .given .1), c .before .before .before .before .before .rewrite-bytes .kept .1 .1 .0)))
 
 write-all-requires : tie.Need-write-all-requires
 write-all-requires c κs = search needs
@@ -45,10 +45,10 @@ write-refusal-requires : tie.Need-write-refusal-requires
 write-refusal-requires c κs = search needs
 
 returns : tie.Need-returns
-returns c = answers _ (c .before .before .before .before .before .before .before .before .before .before .read-full .result) (c .before .before .before .before .before .before .before .before .before .before .read-full .last .1 .0) (c .before .before .before .before .before .before .rewrite-bytes .ensures .1) (omega (arith, c .before .before .before .before .before .before .before .before .before .before .read-full .kept .1 .0)) (sym (c .before .before .before .answer .given .1) ∙ c .before .before .before .before .before .before .rewrite-bytes .ensures .0)
+returns c = answers (c .before .before .before .before .before .before .before .before .before .before .before .before .args .mode) (c .before .before .before .before .before .before .before .before .before .before .read-full .result) (c .before .before .before .before .before .before .before .before .before .before .read-full .last .1 .0) (c .before .before .before .before .before .before .rewrite-bytes .ensures .1) (omega (arith, c .before .before .before .before .before .before .before .before .before .before .read-full .kept .1 .0)) (sym (c .before .before .before .answer .given .1) ∙ c .before .before .before .before .before .before .rewrite-bytes .ensures .0)
 
 returns-2 : tie.Need-returns-2
-returns-2 c = answers _ (c .before .before .before .before .before .before .before .before .before .read-full .result) (c .before .before .before .before .before .before .before .before .before .read-full .last .1 .0) (c .before .before .before .before .before .rewrite-bytes .ensures .1) (omega (arith, c .before .before .before .before .before .before .before .before .before .read-full .kept .1 .0)) (sym (c .before .before .answer2 .given .1) ∙ c .before .before .before .before .before .rewrite-bytes .ensures .0)
+returns-2 c = answers (c .before .before .before .before .before .before .before .before .before .before .before .args .mode) (c .before .before .before .before .before .before .before .before .before .read-full .result) (c .before .before .before .before .before .before .before .before .before .read-full .last .1 .0) (c .before .before .before .before .before .rewrite-bytes .ensures .1) (omega (arith, c .before .before .before .before .before .before .before .before .before .read-full .kept .1 .0)) (sym (c .before .before .answer2 .given .1) ∙ c .before .before .before .before .before .rewrite-bytes .ensures .0)
 
 pub rewrite-stream-spec : {M : Type 1} → statement M
 rewrite-stream-spec =

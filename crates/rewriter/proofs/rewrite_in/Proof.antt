@@ -24,14 +24,14 @@ write-fitting-requires : tie.Need-write-fitting-requires
 write-fitting-requires c κs = c .before .before .before .before .before .retime-file .ensures .1 _ (c .before .before .enum-told .given .1) .1
 
 returns : tie.Need-returns
-returns c = rewrote (laid-none _ (c .before .before .before .before .retime-file .ensures) (c .before .before .before .before .before .before .before .before .args .out .now) (c .before .number .given .1))
+returns c = rewrote (laid-none (c .before .before .before .before .before .before .before .before .args .mode) (c .before .before .before .before .retime-file .ensures) (c .before .before .before .before .before .before .before .before .args .out .now) (c .before .number .given .1))
 
 same-length : tie.Need-same-length
 same-length c = search needs
 
 returns-2 : tie.Need-returns-2
 returns-2 c =
-    let r = rewrote (laid-written _ (c .before .before .before .before .before .before .before .before .retime-file .ensures) (c .before .before .before .before .before .before .before .before .before .before .before .before .args .out .now) (c .before .before .before .before .before .enum-told .given .1)) in
+    let r = rewrote (laid-written (c .before .before .before .before .before .before .before .before .before .before .before .before .args .mode) (c .before .before .before .before .before .before .before .before .retime-file .ensures) (c .before .before .before .before .before .before .before .before .before .before .before .before .args .out .now) (c .before .before .before .before .before .enum-told .given .1)) in
     (c .before .before .write-fitting .ensures .0 ∙ r .0, c .before .before .write-fitting .ensures .1 ∙ r .1)
 
 pub rewrite-in-spec : {M : Type 1} → statement M
