@@ -1,6 +1,7 @@
 pub mod Areas
 pub mod Entries
 pub mod EntriesLaws
+pub mod PlacedTo
 pub mod Registers
 pub mod RegistersPut
 pub mod RegistersRow

@@ -1,12 +1,11 @@
 -- The plan of the rewritten netlist: what an area and the words hold of each of its nodes. Assumes nothing.
 use mathlib.Core.Path.{_≡_}
 use mathlib.Core.List.{List}
-use Prim.Native.Nat.{ℕ, suc, _+_, _*_, _≤_, _<_}
-use lib.ListN.{length, getD}
-use Rattle.netlist.specs.Net.{Net, size, elementAt, source, operands}
+use Prim.Native.Nat.{ℕ, _*_, _≤_, _<_}
+use lib.ListN.{length}
+use Rattle.netlist.specs.Net.{Net}
 use Rattle.behaviour.specs.Run.{zeroWord}
-use Rattle.retiming.specs.Rewrite.{Timing, Place, Entry, Reg, resetWord, places, numberOf, along}
-use Rattle.retiming.specs.Layout.{noPlace}
+use Rattle.retiming.specs.Rewrite.{Timing, places}
 use Rattle.plan.specs.Areas.{ownersIn, wordsIn, lateIn, sourcesIn}
 use Rattle.plan.specs.Registers.{entryCount, Laid}
 

@@ -3,29 +3,25 @@ use mathlib.Core.Path.{_≡_, refl, sym, ap, ap₂, subst, _∙_}
 use mathlib.Core.Logic.{⊎-elim}
 use mathlib.Core.Bool.{Bool, true, false, cond}
 use mathlib.Core.List.{List}
-use Prim.Native.Nat.{ℕ, _+_, _-_, _*_, _/_, _%_, _≤_, _<_, zero-le}
+use Prim.Native.Nat.{ℕ, _+_, _-_, _*_, _/_, _%_, _≤_, _<_}
 use native.Mathlib.Nat.{not-suc-le-zero}
 use native.Mathlib.Omega.{arith}
-use lib.ListN.{length, getD, replicate, length-append, getD-replicate, List·getD-append}
-use lib.Seq.{getD-append-add}
-use borrow.Author.Tests.{le-ltb}
+use lib.ListN.{length, getD, replicate, length-append, getD-replicate}
 use Rattle.lists.specs.Sections.{section-length, section-replicate}
 use Rattle.lists.specs.BelowLaws.{true-or-false, lt-or-le}
-use Rattle.netlist.specs.Net.{Net, size, elementAt, source, operands, Sourced}
-use Rattle.netlist.specs.NodeLaws.{few-operands}
+use Rattle.netlist.specs.Net.{Net, size}
 use Rattle.behaviour.specs.Run.{zeroWord}
-use Rattle.retiming.specs.Rewrite.{Timing, Place, Entry, Reg, root, memoryAt, countOn, copyOn, wordFrom, resetWord, entryPlaces, regPlaces, places, numberOf, along}
+use Rattle.retiming.specs.Rewrite.{Timing, Place, root, memoryAt, countOn, copyOn, wordFrom, resetWord, entryPlaces, regPlaces, places}
 use Rattle.retiming.specs.Candidate.{word-before, word-after}
-use Rattle.retiming.specs.Layout.{noPlace, Sound, places-sound}
 use Rattle.first_clocks.specs.Wanted.{OfNodes, Taken}
 use Rattle.wires.specs.Traced.{rootsIn, passesIn}
 use Rattle.wiring.specs.Wiring.{Ready, Timed, endsIn, fromsIn, clocksIn, headsIn, Entered, count-from, askedClock, sourceOf, wireAt, lastClock, Wired, WiredTo, Copied}
-use Rattle.wiring.specs.WiringLaws.{wire-inside, asked-before, asked-after, lead-few, counted, count-few, wired-none, wired-as}
+use Rattle.wiring.specs.WiringLaws.{wire-inside, asked-before, asked-after, counted, wired-none, wired-as}
 use Rattle.wiring.specs.Links.{LinkedFrom, RomsLinked, linked-none, linked-as, roms-linked}
 use Rattle.plan.specs.Entries.{Wants, AllPlaced}
 use Rattle.plan.specs.EntriesLaws.{all-wanted}
-use Rattle.plan.specs.Registers.{entryCount, entryAt, rowBefore, wiresBefore, Planning, RegHeld, HeadHeld, Laid, AllLaid}
-use Rattle.plan.specs.RegistersRow.{regs-in-row, reader-stands}
+use Rattle.plan.specs.Registers.{entryCount, rowBefore, wiresBefore, Planning, Laid, AllLaid}
+use Rattle.plan.specs.RegistersRow.{regs-in-row}
 use Rattle.plan.specs.Areas.{ownersIn, wordsIn, lateIn, firstsIn, sourcesIn}
 use Rattle.plan.specs.Plan.{PlanLaid}
 

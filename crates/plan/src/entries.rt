@@ -105,7 +105,8 @@ fn place(
     plan: &mut [u16],
 ) -> usize
     ghost { Net }
-    requires { λ N. opened 𝓤 (now file) (now net) N ((u < size N) × (modeTiming mode N .keeps u ≡ true) × (count ≤ 1024) × (length (now wires) ≡ 10240) × (length (now copied) ≡ 3072) × (length (now plan) ≡ 7168)
+    requires { λ N. opened 𝓤 (now file) (now net) N ((u < size N) × (modeTiming mode N .keeps u ≡ true) × (count ≤ 1024)
+        × (length (now wires) ≡ 10240) × (length (now copied) ≡ 3072) × (length (now plan) ≡ 7168)
         × Wants N (modeTiming mode N) (endsIn (now wires)) (now copied) × RomsLinked N (endsIn (now wires)) (headsIn (now wires)) (clocksIn (now wires))
         × Placing (ownersIn (now plan)) (wordsIn (now plan)) (entriesBefore N (modeTiming mode N) u) count) }
     ensures { λ N r. ⌜ Placing (ownersIn (now (plan .exit))) (wordsIn (now (plan .exit))) (entriesBefore N (modeTiming mode N) (u + 1)) r × (r ≤ 4096)
@@ -133,7 +134,8 @@ pub fn place_entries(
     plan: &mut [u16],
 ) -> usize
     ghost { Net }
-    requires { λ N. opened 𝓤 (now file) (now net) N (Timed N (modeTiming mode N) (now timing) × (length (now timing) ≡ 3072) × (length (now wires) ≡ 10240) × (length (now copied) ≡ 3072) × (length (now plan) ≡ 7168)
+    requires { λ N. opened 𝓤 (now file) (now net) N (Timed N (modeTiming mode N) (now timing) × (length (now timing) ≡ 3072)
+        × (length (now wires) ≡ 10240) × (length (now copied) ≡ 3072) × (length (now plan) ≡ 7168)
         × Wants N (modeTiming mode N) (endsIn (now wires)) (now copied) × RomsLinked N (endsIn (now wires)) (headsIn (now wires)) (clocksIn (now wires))) }
     ensures { λ N r. ⌜ AllPlaced N (modeTiming mode N) (ownersIn (now (plan .exit))) (wordsIn (now (plan .exit))) (firstsIn (now (plan .exit))) r
         × (lateIn (now (plan .exit)) ≡ lateIn (now (plan .entry))) ⌝ }

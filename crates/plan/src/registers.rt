@@ -95,13 +95,15 @@ fn lay_wire(
     plan: &mut [u16],
 ) -> usize
     ghost { Net }
-    requires { λ N. opened 𝓤 (now file) (now net) N (Planning N (modeTiming (made .mode) N) (now timing) (rootsIn (now timing)) (passesIn (now timing)) (endsIn (now wires)) (now copied) (firstsIn (now plan))
+    requires { λ N. opened 𝓤 (now file) (now net) N (Planning N (modeTiming (made .mode) N) (now timing) (rootsIn (now timing)) (passesIn (now timing))
+        (endsIn (now wires)) (now copied) (firstsIn (now plan))
         × (length (now timing) ≡ 3072) × (length (now wires) ≡ 10240) × (length (now copied) ≡ 3072) × (length (now plan) ≡ 7168)
         × (made .entries ≡ entryCount N (modeTiming (made .mode) N)) × (made .total ≤ 1024)
         × (to .e < made .entries) × (to .p < operands (elementAt N (getD (ownersIn (now plan)) (to .e) 0)))
         × Laid N (modeTiming (made .mode) N) (ownersIn (now plan)) (wordsIn (now plan)) (lateIn (now plan)) (sourcesIn (now plan)) (3 * to .e + to .p) (made .total)) }
-    ensures { λ N r. ⌜ Laid N (modeTiming (made .mode) N) (ownersIn (now (plan .exit))) (wordsIn (now (plan .exit))) (lateIn (now (plan .exit))) (sourcesIn (now (plan .exit))) (3 * to .e + to .p + 1) r × (r ≤ 4099)
-        × (firstsIn (now (plan .exit)) ≡ firstsIn (now (plan .entry))) ⌝ }
+    ensures { λ N r. ⌜ Laid N (modeTiming (made .mode) N) (ownersIn (now (plan .exit))) (wordsIn (now (plan .exit))) (lateIn (now (plan .exit))) (sourcesIn (now (plan .exit)))
+        (3 * to .e + to .p + 1) r
+        × (r ≤ 4099) × (firstsIn (now (plan .exit)) ≡ firstsIn (now (plan .entry))) ⌝ }
 {
     let mode = made.mode;
     let entries = made.entries;
@@ -135,11 +137,13 @@ fn lay_entry(
     plan: &mut [u16],
 ) -> usize
     ghost { Net }
-    requires { λ N. opened 𝓤 (now file) (now net) N (Planning N (modeTiming (made .mode) N) (now timing) (rootsIn (now timing)) (passesIn (now timing)) (endsIn (now wires)) (now copied) (firstsIn (now plan))
+    requires { λ N. opened 𝓤 (now file) (now net) N (Planning N (modeTiming (made .mode) N) (now timing) (rootsIn (now timing)) (passesIn (now timing))
+        (endsIn (now wires)) (now copied) (firstsIn (now plan))
         × (length (now timing) ≡ 3072) × (length (now wires) ≡ 10240) × (length (now copied) ≡ 3072) × (length (now plan) ≡ 7168)
         × (made .entries ≡ entryCount N (modeTiming (made .mode) N)) × (made .total ≤ 1024) × (e < made .entries)
         × Laid N (modeTiming (made .mode) N) (ownersIn (now plan)) (wordsIn (now plan)) (lateIn (now plan)) (sourcesIn (now plan)) (3 * e) (made .total)) }
-    ensures { λ N r. ⌜ (r ≤ 1024 → Laid N (modeTiming (made .mode) N) (ownersIn (now (plan .exit))) (wordsIn (now (plan .exit))) (lateIn (now (plan .exit))) (sourcesIn (now (plan .exit))) (3 * e + 3) r)
+    ensures { λ N r. ⌜ (r ≤ 1024 → Laid N (modeTiming (made .mode) N) (ownersIn (now (plan .exit))) (wordsIn (now (plan .exit))) (lateIn (now (plan .exit))) (sourcesIn (now (plan .exit)))
+        (3 * e + 3) r)
         × (1024 < r → AllLaid N (modeTiming (made .mode) N) (ownersIn (now (plan .exit))) (wordsIn (now (plan .exit))) (lateIn (now (plan .exit))) (sourcesIn (now (plan .exit))) r)
         × (firstsIn (now (plan .exit)) ≡ firstsIn (now (plan .entry))) ⌝ }
 {
@@ -177,7 +181,8 @@ pub fn lay_wires(
     plan: &mut [u16],
 ) -> usize
     ghost { Net }
-    requires { λ N. opened 𝓤 (now file) (now net) N (Planning N (modeTiming mode N) (now timing) (rootsIn (now timing)) (passesIn (now timing)) (endsIn (now wires)) (now copied) (firstsIn (now plan))
+    requires { λ N. opened 𝓤 (now file) (now net) N (Planning N (modeTiming mode N) (now timing) (rootsIn (now timing)) (passesIn (now timing))
+        (endsIn (now wires)) (now copied) (firstsIn (now plan))
         × (length (now timing) ≡ 3072) × (length (now wires) ≡ 10240) × (length (now copied) ≡ 3072)
         × (entries ≡ entryCount N (modeTiming mode N)) × (length (now plan) ≡ 7168)
         × Laid N (modeTiming mode N) (ownersIn (now plan)) (wordsIn (now plan)) (lateIn (now plan)) (sourcesIn (now plan)) 0 entries) }

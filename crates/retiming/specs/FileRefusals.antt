@@ -1,6 +1,6 @@
 -- The rewriter's own refusals of a file that the reader passes, each if and only if, with its place; and no refusal changes the lent output.
 -- This rules out a rewriter that says 11 or 12 to everything, and one that says 14 before the length is known. Assumes nothing.
-use mathlib.Core.Path.{_≡_, refl, sym, ap, _∙_}
+use mathlib.Core.Path.{_≡_}
 use mathlib.Core.Logic.{_↔_, _⊎_, inl, inr, ⊎-elim}
 use mathlib.Core.Bool.{false}
 use mathlib.Core.List.{List}
@@ -12,10 +12,9 @@ use Rattle.netlist.specs.Net.{Net, size}
 use Rattle.netlist.specs.Checks.{WellFormed}
 use Rattle.netlist.specs.Places.{LowestNode}
 use Rattle.netlist.specs.VerdictLaws.{reader-fine}
-use Rattle.netlist.specs.Verdict.{onward, readerVerdict}
-use Rattle.netlist.specs.File.{Decoded, good, decode, decodedNet, judged, fileVerdict}
+use Rattle.netlist.specs.Verdict.{readerVerdict}
+use Rattle.netlist.specs.File.{good, decode}
 use Rattle.netlist.specs.declared.Answer.the-variants.{Refused}
-use Rattle.netlist.specs.declared.Verdict.{Verdict}
 use Rattle.netlist.specs.declared.Verdict.the-variants.{Fine, Refuses}
 use Rattle.codec.specs.Bytes.{Bytes}
 use Rattle.codec.specs.DecodeWithin.{decode-within}
@@ -25,7 +24,7 @@ use Rattle.retiming.specs.Rewrite.{rewritten}
 use Rattle.retiming.specs.Debt.{debtVerdict}
 use Rattle.retiming.specs.DebtLaws.{LowestOwing, NoneOwes, search-ports, no-closed, closed-none, refuses-11-iff, refuses-12-iff, refuses-13-iff}
 use Rattle.retiming.specs.PortWalks.{PortOwes, lowest-owing, none-owes}
-use Rattle.retiming.specs.FileRewrite.{rewriterVerdict, IsAccepted, rewrittenFile, writtenBy, outVerdict, written, writtenAfter, rewriteFile}
+use Rattle.retiming.specs.FileRewrite.{rewriterVerdict, IsAccepted, rewrittenFile, rewriteFile}
 use Rattle.retiming.specs.OutLaws.{kept, short-iff, said-iff}
 use Rattle.retiming.specs.Past.{judged-is}
 

@@ -16,7 +16,7 @@ use Rattle.plan.specs.Registers.{entryCount}
 use Rattle.plan.specs.RegistersPut.{source-put}
 use Rattle.plan.specs.RegistersLaws.{owner-is}
 use Rattle.plan.specs.PlanLaws.{places-length}
-use Rattle.steering.specs.GatesTo.{PutsPairs, GatesTo, AllGated}
+use Rattle.steering.specs.GatesTo.{PutsPairs, GatesTo}
 use Rattle.steering.specs.GatesLaws.{gate-reader, gates-past, gates-none, gates-more}
 use Rattle.steering.specs.ChainLaws.{shownFrom, shown-from}
 

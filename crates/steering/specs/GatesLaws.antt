@@ -1,9 +1,9 @@
 -- The gates of one wire more. Assumes nothing.
-use mathlib.Core.Path.{_≡_, refl, sym, ap, ap₂, subst, _∙_}
+use mathlib.Core.Path.{_≡_, refl, sym, ap, subst, _∙_}
 use mathlib.Core.Logic.{⊎-elim}
 use mathlib.Core.Bool.{Bool, cond}
 use mathlib.Core.List.{List, [], _∷_, _++_, append-nil}
-use Prim.Native.Nat.{ℕ, zero, suc, _+_, _-_, _*_, _/_, _%_, _≤_, _<_}
+use Prim.Native.Nat.{ℕ, suc, _+_, _-_, _*_, _/_, _%_, _≤_, _<_}
 use native.Mathlib.Omega.{arith}
 use lib.ListN.{length, getD, set, length-append, List·getD-append}
 use lib.Seq.{getD-append-add, getD-set-same, getD-set-other}
@@ -13,19 +13,18 @@ use Rattle.lists.specs.BelowLaws.{lt-or-le, lt-suc-split}
 use Rattle.netlist.specs.Net.{Net, elementAt, source, operands}
 use Rattle.netlist.specs.NodeLaws.{few-operands}
 use Rattle.behaviour.specs.Run.{zeroWord}
-use Rattle.retiming.specs.Rewrite.{Timing, Place, Entry, Reg, entryPlaces, regPlaces, places, numberOf, along}
+use Rattle.retiming.specs.Rewrite.{Timing, Place, Entry, Reg, entryPlaces, places, numberOf, along}
 use Rattle.retiming.specs.Layout.{noPlace, Stands}
 use Rattle.retiming.specs.Gates.{Spot, Old, One, Chain, Shown, Pick, firstOn, shownOn, picksOn, spotNumber, picked}
 use Rattle.retiming.specs.GatesLayout.{noSpot, picked-gate, picked-wire}
 use Rattle.retiming.specs.GatesCounts.{picks-length}
-use Rattle.wiring.specs.Wiring.{askedClock}
 use Rattle.wiring.specs.WiringLaws.{asked-after}
 use Rattle.plan.specs.Entries.{Stored}
 use Rattle.plan.specs.Registers.{entryCount, entryAt, wireOn, wiresBefore, HeadHeld, RegHeld}
-use Rattle.plan.specs.RegistersRow.{row-next, row-longer, reader-stands}
+use Rattle.plan.specs.RegistersRow.{row-next, reader-stands}
 use Rattle.plan.specs.PlanLaws.{places-length}
 use Rattle.steering.specs.Gated.{SpotKept}
-use Rattle.steering.specs.GatesTo.{gateAfter, PutsPairs, picksBefore, gatesFrom, HeadGated, GatesTo, AllGated}
+use Rattle.steering.specs.GatesTo.{gateAfter, PutsPairs, picksBefore, gatesFrom, HeadGated, GatesTo}
 use Rattle.steering.specs.GatesRow.{constant-at, gate-at, pick-number}
 
 pub after-gate : (head start count t : ℕ) → suc t < count → gateAfter head start count t ≡ start + 2 * t + 3

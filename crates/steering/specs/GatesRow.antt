@@ -1,11 +1,10 @@
 -- The gates of all wires in a row: what stands where, and its number. Assumes nothing.
-use mathlib.Core.Path.{_≡_, refl, sym, ap, _∙_}
+use mathlib.Core.Path.{_≡_, sym, ap, _∙_}
 use mathlib.Core.List.{List, _++_, map}
-use Prim.Native.Nat.{ℕ, zero, suc, _+_, _*_, _≤_, _<_}
+use Prim.Native.Nat.{ℕ, _+_, _*_, _≤_, _<_}
 use native.Mathlib.Omega.{arith}
 use lib.ListN.{length, getD, length-append, length-map}
 use lib.Seq.{getD-append-add}
-use Rattle.lists.specs.Lists.{below, concatMap}
 use Rattle.lists.specs.ListsLaws.{getD-concatBelow}
 use Rattle.netlist.specs.Net.{Net}
 use Rattle.behaviour.specs.Run.{zeroWord}

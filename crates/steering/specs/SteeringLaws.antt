@@ -1,23 +1,22 @@
 -- From the plan without gates to the plan with them. Assumes nothing.
 use mathlib.Core.Path.{_≡_, refl, sym, ap, subst, _∙_}
 use mathlib.Core.Logic.{⊎-elim}
-use mathlib.Core.Bool.{true, false}
 use mathlib.Core.List.{List, [], _∷_, _++_, map}
-use Prim.Native.Nat.{ℕ, zero, suc, _+_, _-_, _*_, _/_, _%_, _≤_, _<_, zero-le}
+use Prim.Native.Nat.{ℕ, zero, suc, _+_, _-_, _*_, _/_, _%_, _≤_, _<_}
 use native.Mathlib.Nat.{not-suc-le-zero}
 use native.Mathlib.Omega.{arith}
-use lib.ListN.{length, getD, length-append, length-map, List·getD-append}
+use lib.ListN.{length, getD, length-map, List·getD-append}
 use lib.Seq.{getD-append-add}
 use lib.Dec.{ltb}
 use borrow.Author.Tests.{lt-ltb, le-ltb}
 use Rattle.lists.specs.Lists.{below}
 use Rattle.lists.specs.BelowLaws.{true-or-false, lt-or-le, length-listed, getD-listed, getD-map-lt}
-use Rattle.netlist.specs.Net.{Net, elementAt, operands}
+use Rattle.netlist.specs.Net.{Net, elementAt}
 use Rattle.netlist.specs.NodeLaws.{few-operands}
 use Rattle.behaviour.specs.Run.{zeroWord}
-use Rattle.retiming.specs.Rewrite.{Timing, Place, Entry, Reg, entryPlaces, regPlaces, places, numberOf, along}
+use Rattle.retiming.specs.Rewrite.{Timing, Place, Entry, Reg, entryPlaces, regPlaces, places}
 use Rattle.retiming.specs.Layout.{noPlace, either}
-use Rattle.retiming.specs.Gates.{Spot, Old, One, Chain, shownOn, chainLength, picksOn, chainSpots, pickSpots, spots, spotNumber, picked}
+use Rattle.retiming.specs.Gates.{Old, One, Chain, chainLength, picksOn, chainSpots, pickSpots, spots, spotNumber}
 use Rattle.retiming.specs.GatesLayout.{noSpot, picked-wire}
 use Rattle.retiming.specs.Ungated.{none-shown, no-length, no-chain, no-picks}
 use Rattle.plan.specs.Areas.{ownersIn, wordsIn, lateIn, sourcesIn}

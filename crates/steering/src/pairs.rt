@@ -20,7 +20,7 @@ ghost use Rattle.behaviour.specs.Run.{zeroWord};
 ghost use Rattle.retiming.specs.Rewrite.{places};
 ghost use Rattle.retiming.specs.Modes.{modeTiming};
 ghost use Rattle.wiring.specs.Wiring.{Timed};
-ghost use Rattle.plan.specs.Areas.{ownersIn, wordsIn, lateIn, firstsIn, sourcesIn};
+ghost use Rattle.plan.specs.Areas.{ownersIn, wordsIn, lateIn, sourcesIn};
 ghost use Rattle.plan.specs.Registers.{entryCount};
 ghost use Rattle.steering.specs.GatesTo.{gateAfter, PutsPairs, GatesTo, AllGated};
 ghost use Rattle.steering.specs.PairsPut.{twoPut, gatePut};
@@ -139,7 +139,8 @@ fn gate_entry(
         × (made .entries ≡ entryCount N (modeTiming (made .mode) N)) × (made .wired ≡ length (places N (modeTiming (made .mode) N) (zeroWord N))) × (made .total ≤ 1024)
         × (e < made .entries)
         × GatesTo N (modeTiming (made .mode) N) (ownersIn (now plan)) (wordsIn (now plan)) (lateIn (now plan)) (sourcesIn (now plan)) (3 * e) (made .total)) }
-    ensures { λ N r. ⌜ (r ≤ 1024 → GatesTo N (modeTiming (made .mode) N) (ownersIn (now (plan .exit))) (wordsIn (now (plan .exit))) (lateIn (now (plan .exit))) (sourcesIn (now (plan .exit))) (3 * e + 3) r)
+    ensures { λ N r. ⌜ (r ≤ 1024 → GatesTo N (modeTiming (made .mode) N) (ownersIn (now (plan .exit))) (wordsIn (now (plan .exit))) (lateIn (now (plan .exit))) (sourcesIn (now (plan .exit)))
+        (3 * e + 3) r)
         × (1024 < r → AllGated N (modeTiming (made .mode) N) (ownersIn (now (plan .exit))) (wordsIn (now (plan .exit))) (lateIn (now (plan .exit))) (sourcesIn (now (plan .exit))) r) ⌝ }
 {
     let mode = made.mode;

@@ -1,5 +1,5 @@
 -- None in the plain mode; else the chain, and the gates of all wires.
-use mathlib.Core.Path.{_≡_, refl, sym, _∙_}
+use mathlib.Core.Path.{refl, sym}
 use Prim.Native.Nat.{_≤_}
 use native.Mathlib.Omega.{arith}
 use Rattle.circuit.specs.Circuit.{netOf}

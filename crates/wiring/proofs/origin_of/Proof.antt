@@ -1,5 +1,4 @@
 -- 0, or two more than nodes.
-use mathlib.Core.Path.{_≡_}
 use native.Mathlib.Omega.{arith}
 use Rattle.circuit.specs.Circuit.{netOf}
 use Rattle.retiming.specs.ModeLaws.{origin-plain, origin-late}

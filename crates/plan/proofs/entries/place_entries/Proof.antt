@@ -1,12 +1,13 @@
 -- The loop's invariant: the entries of the first u nodes are placed.
-use mathlib.Core.Path.{_≡_, refl, sym, _∙_}
+use mathlib.Core.Path.{refl, sym, _∙_}
 use mathlib.Core.Logic.{⊎-elim}
 use Prim.Native.Nat.{_-_, _≤_, _<_}
 use native.Mathlib.Omega.{arith}
 use Rattle.circuit.specs.Circuit.{netOf}
 use Rattle.retiming.specs.Modes.{modeTiming}
 use Rattle.plan.specs.Areas.{firstsIn}
-use Rattle.plan.specs.EntriesLaws.{placing-none, placed-over, placed-all, PlacedTo, placed-as, placing-put, placed-left, placed-next}
+use Rattle.plan.specs.EntriesLaws.{placing-none, placed-over, placed-all}
+use Rattle.plan.specs.PlacedTo.{PlacedTo, placed-as, placing-put, placed-left, placed-next}
 use borrow.Author.Needs.{needs}
 use Rattle.plan.proofs.entries.place_entries.Statement.{statement}
 use Rattle.plan.proofs.entries.place_entries.Tie as tie

@@ -1,6 +1,6 @@
 -- The loop's invariant: the largest of the first p operands.
 use mathlib.Core.Path.{_≡_, refl, sym, ap, _∙_}
-use Prim.Native.Nat.{ℕ, _-_, _≤_, _<_}
+use Prim.Native.Nat.{ℕ, _-_, _≤_}
 use native.Mathlib.Omega.{arith}
 use Rattle.lists.specs.Lists.{largest}
 use Rattle.circuit.specs.Circuit.{netOf}
