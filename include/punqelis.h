@@ -21,6 +21,8 @@
  * A pointer must not be NULL, also where its length is 0. Memory that a function writes (state,
  * outputs, out, by_source) must not overlap with any other memory lent to the same call. When a
  * call is refused, no lent byte has changed. Bytes past the result are never changed.
+ * There is no heap. Of the stack both rewritings and the preview take 87 KiB and every other
+ * function at most 43 KiB, as measured.
  *
  * Refusals, in the order in which they are looked for:
  *    1 long         the file has over 46,000 bytes                        place 0

@@ -3,6 +3,7 @@ pub mod Entries
 pub mod EntriesLaws
 pub mod PlacedTo
 pub mod Registers
+pub mod OperandAt
 pub mod RegistersPut
 pub mod RegistersRow
 pub mod RegistersLaws

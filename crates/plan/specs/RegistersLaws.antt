@@ -14,7 +14,6 @@ use Rattle.lists.specs.Lists.{has}
 use Rattle.lists.specs.Sections.{section-length, section-read}
 use Rattle.lists.specs.BelowLaws.{lt-or-le, lt-suc-split, length-listed, getD-listed}
 use Rattle.netlist.specs.Net.{Net, size, elementAt, source, operands, Sourced}
-use Rattle.netlist.specs.NodeLaws.{few-operands}
 use Rattle.behaviour.specs.Run.{zeroWord}
 use Rattle.retiming.specs.Rewrite.{Timing, Place, Entry, Reg, root, countOn, copyOn, copies, stays, regsOn, entryPlaces, numberOf, along}
 use Rattle.retiming.specs.Layout.{noPlace, Stands, root-stands, stays-if, copy-on, along-reg, along-end}
@@ -25,6 +24,7 @@ use Rattle.wiring.specs.WiringLaws.{count-kept}
 use Rattle.plan.specs.Areas.{ownersIn, wordsIn, lateIn, firstsIn, sourcesIn}
 use Rattle.plan.specs.Entries.{Finds, Stored, entriesBefore}
 use Rattle.plan.specs.Registers.{behind, PutsRegisters, entryCount, entryAt, wireOn, wiresBefore, Planning, HeadHeld, RegHeld, Laid, AllLaid}
+use Rattle.plan.specs.OperandAt.{OperandAt, operand-at, rest-of}
 use Rattle.plan.specs.RegistersPut.{source-put, puts-as}
 use Rattle.plan.specs.RegistersRow.{row-next, row-longer, reg-number, entry-number, entries-few, reader-stands, wires-all}
 
@@ -238,27 +238,14 @@ module _ (N : Net) (f : Timing) {e : ℕ} (h : e < entryCount N f) where
   pub owner-same : {o w l s o′ w′ l′ s′ : List ℕ} {m m′ total total′ : ℕ} → Laid N f o w l s m total → Laid N f o′ w′ l′ s′ m′ total′ → getD o e 0 ≡ getD o′ e 0
   owner-same d d′ = let a = d .held e h in let b = d′ .held e h in cc (a, b)
 
-  -- the old node as the code reads it
-  pub owner-is : (plan : List ℕ) {x : ℕ} → entryCount N f ≤ 1024 → x ≡ getD plan e 0 → x ≡ getD (ownersIn plan) e 0
-  owner-is plan few q = q ∙ ap (λ (i : ℕ). getD plan i 0) (let z : e ≡ 0 + e = omega arith in z) ∙ sym (section-read 0 1024 plan e (omega arith))
-
   module _ {owners words late sources : List ℕ} {total : ℕ} where
     -- and it is a node
     pub owner-inside : {x : ℕ} → Laid N f owners words late sources (3 * e) total → x ≡ getD owners e 0 → x < size N
     owner-inside d q = omega (arith, q, reader-stands N f owners words (d .held) e h .inside)
 
-    -- from place q on, n places up to the next entry
-    rest-from : (n q : ℕ) → q + n ≡ 3 → operands (elementAt N (getD owners e 0)) ≤ q → Laid N f owners words late sources (3 * e + q) total → Laid N f owners words late sources (3 * e + 3) total
-    rest-from zero q s l d = laid-at (let z : 3 * e + q ≡ 3 * e + 3 = omega arith in z) d
-    rest-from (suc n) q s l d =
-        let a : e ≡ (3 * e + q) / 3 = omega arith in
-        let b : q ≡ (3 * e + q) % 3 = omega arith in
-        let none : operands (elementAt N (getD owners ((3 * e + q) / 3) 0)) ≤ (3 * e + q) % 3 = subst (λ (i : ℕ). operands (elementAt N (getD owners i 0)) ≤ (3 * e + q) % 3) a (subst (λ (i : ℕ). operands (elementAt N (getD owners e 0)) ≤ i) b l) in
-        rest-from n (q + 1) (omega arith) (omega arith) (laid-at (let z : 3 * e + q + 1 ≡ 3 * e + (q + 1) = omega arith in z) (laid-none d (omega arith) none))
-
     -- its places after the last operand have no wire
     pub laid-rest : {n : ℕ} → n ≡ operands (elementAt N (getD owners e 0)) → Laid N f owners words late sources (3 * e + n) total → Laid N f owners words late sources (3 * e + 3) total
-    laid-rest {n} q d = rest-from (3 - n) n (omega (arith, q, few-operands (elementAt N (getD owners e 0)))) (omega arith) d
+    laid-rest q d = rest-of N owners e (λ (m : ℕ). Laid N f owners words late sources m total) (λ m l none at. laid-none at (omega arith) none) q d
 
 -- ---- the same in the areas, as the code reads and puts them
 
@@ -284,36 +271,17 @@ module _ {N : Net} {f : Timing} {timing copied : List ℕ} (wires plan : List �
   abbrev m : ℕ
   m = 3 * e + p
 
-  -- a node has at most three operands, so the wire is one of its entry's three
-  operand-few : p < 3
-  operand-few = omega (arith, o, few-operands (elementAt N (getD (ownersIn plan) e 0)))
-
-  entry-is : e ≡ m / 3
-  entry-is = omega (arith, operand-few)
-
-  operand-is : p ≡ m % 3
-  operand-is = omega (arith, operand-few)
-
-  wire-few : m < 3 * entryCount N f
-  wire-few = omega (arith, operand-few)
-
-  reader-is : x ≡ getD (ownersIn plan) (m / 3) 0
-  reader-is = owner-is N f (omega arith) plan (t .few) xe ∙ ap (λ (i : ℕ). getD (ownersIn plan) i 0) entry-is
+  at : OperandAt N f plan e p x
+  at = operand-at N f (omega arith) plan (t .few) o xe
 
   reader-inside : x < size N
-  reader-inside = omega (arith, reader-is, reader-here d wire-few .inside)
+  reader-inside = omega (arith, at .reader, reader-here d (at .within) .inside)
 
   wire-is : 3 * x + p ≡ 3 * getD (ownersIn plan) (m / 3) 0 + m % 3
-  wire-is = ap₂ (λ (v q : ℕ). 3 * v + q) reader-is operand-is
-
-  there : m % 3 < operands (elementAt N (getD (ownersIn plan) (m / 3) 0))
-  there = subst (λ (q : ℕ). q < operands (elementAt N (getD (ownersIn plan) (m / 3) 0))) operand-is (subst (λ (i : ℕ). p < operands (elementAt N (getD (ownersIn plan) i 0))) entry-is o)
+  wire-is = ap₂ (λ (v q : ℕ). 3 * v + q) (at .reader) (at .operand)
 
   wire-small : 3 * x + p < 3072
-  wire-small = omega (arith, wire-within d wire-few t there wire-is, t .ready .formed .fields .bounds .nodes)
-
-  source-is : source N x p ≡ source N (getD (ownersIn plan) (m / 3) 0) (m % 3)
-  source-is = ap₂ (source N) reader-is operand-is
+  wire-small = omega (arith, wire-within d (at .within) t (at .there) wire-is, t .ready .formed .fields .bounds .nodes)
 
   module _ {end : ℕ} (ee : end ≡ getD wires (0 + (3 * x + p)) 0) where
     end-read : end ≡ getD (endsIn wires) (3 * x + p) 0
@@ -321,7 +289,7 @@ module _ {N : Net} {f : Timing} {timing copied : List ℕ} (wires plan : List �
 
     -- the root of the wire is a node, so its first entry can be read
     end-within : end < size N
-    end-within = omega (arith, end-read, end-is d wire-few t there wire-is, end-inside d wire-few t there wire-is)
+    end-within = omega (arith, end-read, end-is d (at .within) t (at .there) wire-is, end-inside d (at .within) t (at .there) wire-is)
 
     first-read : {first : ℕ} → first ≡ getD plan (3072 + end) 0 → first ≡ getD (firstsIn plan) (getD (endsIn wires) (3 * x + p) 0) 0
     first-read fe =
@@ -332,12 +300,12 @@ module _ {N : Net} {f : Timing} {timing copied : List ℕ} (wires plan : List �
   pub wire-read : WireRead N f wires plan e p x
   wire-read = record {
     inside = reader-inside;
-    few = operand-few;
+    few = at .few;
     old = wire-small;
-    new = omega (arith, wire-few, t .few);
-    from = omega (arith, source-is, source-inside d wire-few t there wire-is);
+    new = omega (arith, at .within, t .few);
+    from = omega (arith, at .from, source-inside d (at .within) t (at .there) wire-is);
     end = λ ee. end-within ee;
-    first = λ ee fe. first-few d wire-few t there wire-is refl (first-read ee fe);
+    first = λ ee fe. first-few d (at .within) t (at .there) wire-is refl (first-read ee fe);
   }
 
   pub wire-laid : {end s c first r count lead-x origin head : ℕ} (put last : List ℕ) → end ≡ getD wires (0 + (3 * x + p)) 0 → s ≡ source N x p → c ≡ getD copied (3 * x + p) 0 → first ≡ getD plan (3072 + end) 0
@@ -348,9 +316,9 @@ module _ {N : Net} {f : Timing} {timing copied : List ℕ} (wires plan : List �
   wire-laid {s = s} {c} {first} {r} {count} {lead-x} {origin} {head} put last ee se ce fe seek ke le oe (q, we, be) long pe he =
       let z = source-put put last m head (wire-read .new) pe in
       let found : Finds (wordsIn plan) c first (entryCount N f) r = subst (λ (n : ℕ). Finds (wordsIn plan) c first n r) ne seek in
-      let counted : count ≡ countFrom N f (getD (ownersIn plan) (m / 3) 0) (source N (getD (ownersIn plan) (m / 3) 0) (m % 3)) = ke ∙ ap₂ (countFrom N f) reader-is (se ∙ source-is) in
-      let leads : lead-x ≡ f .lead (getD (ownersIn plan) (m / 3) 0) = le ∙ t .ready .leads-in x reader-inside ∙ ap (f .lead) reader-is in
-      (laid-as (z .1) (z .2 ∙ we) (z .3) refl (laid-more d wire-few t there wire-is ce (first-read ee fe) found counted leads oe (puts-as (se ∙ source-is) q) (z .0) he (section-length 4096 3072 put (omega arith))), z .4 ∙ be)
+      let counted : count ≡ countFrom N f (getD (ownersIn plan) (m / 3) 0) (source N (getD (ownersIn plan) (m / 3) 0) (m % 3)) = ke ∙ ap₂ (countFrom N f) (at .reader) (se ∙ at .from) in
+      let leads : lead-x ≡ f .lead (getD (ownersIn plan) (m / 3) 0) = le ∙ t .ready .leads-in x reader-inside ∙ ap (f .lead) (at .reader) in
+      (laid-as (z .1) (z .2 ∙ we) (z .3) refl (laid-more d (at .within) t (at .there) wire-is ce (first-read ee fe) found counted leads oe (puts-as (se ∙ at .from) q) (z .0) he (section-length 4096 3072 put (omega arith))), z .4 ∙ be)
 
 -- ---- all wires
 

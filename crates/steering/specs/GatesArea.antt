@@ -6,7 +6,6 @@ use native.Mathlib.Omega.{arith}
 use lib.ListN.{length, getD, set}
 use Rattle.lists.specs.Sections.{section-length, section-read}
 use Rattle.netlist.specs.Net.{Net, size, elementAt, source, operands, Sourced}
-use Rattle.netlist.specs.NodeLaws.{few-operands}
 use Rattle.behaviour.specs.Run.{zeroWord}
 use Rattle.retiming.specs.Rewrite.{Timing, places}
 use Rattle.retiming.specs.Gates.{firstOn, shownOn}
@@ -14,7 +13,7 @@ use Rattle.wiring.specs.Wiring.{Ready}
 use Rattle.plan.specs.Areas.{ownersIn, wordsIn, lateIn, sourcesIn}
 use Rattle.plan.specs.Registers.{entryCount}
 use Rattle.plan.specs.RegistersPut.{source-put}
-use Rattle.plan.specs.RegistersLaws.{owner-is}
+use Rattle.plan.specs.OperandAt.{OperandAt, operand-at, rest-of}
 use Rattle.plan.specs.PlanLaws.{places-length}
 use Rattle.steering.specs.GatesTo.{PutsPairs, GatesTo}
 use Rattle.steering.specs.GatesLaws.{gate-reader, gates-past, gates-none, gates-more}
@@ -48,46 +47,28 @@ module _ {N : Net} {f : Timing} {leads roots passes : List ℕ} (plan : List ℕ
   entries-few : entryCount N f ≤ 1024
   entries-few = omega (arith, places-length N f, d .few)
 
-  operand-few : p < 3
-  operand-few = omega (arith, o, few-operands (elementAt N (getD (ownersIn plan) e 0)))
-
-  entry-is : e ≡ m / 3
-  entry-is = omega (arith, operand-few)
-
-  operand-is : p ≡ m % 3
-  operand-is = omega (arith, operand-few)
-
-  wire-few : m < 3 * entryCount N f
-  wire-few = omega (arith, operand-few)
-
-  reader-is : x ≡ getD (ownersIn plan) (m / 3) 0
-  reader-is = owner-is N f (omega arith) plan entries-few xe ∙ ap (λ (i : ℕ). getD (ownersIn plan) i 0) entry-is
+  at : OperandAt N f plan e p x
+  at = operand-at N f (omega arith) plan entries-few o xe
 
   reader-inside : x < size N
-  reader-inside = omega (arith, reader-is, gate-reader d wire-few .inside)
-
-  there : m % 3 < operands (elementAt N (getD (ownersIn plan) (m / 3) 0))
-  there = subst (λ (q : ℕ). q < operands (elementAt N (getD (ownersIn plan) (m / 3) 0))) operand-is (subst (λ (i : ℕ). p < operands (elementAt N (getD (ownersIn plan) i 0))) entry-is o)
-
-  source-is : source N x p ≡ source N (getD (ownersIn plan) (m / 3) 0) (m % 3)
-  source-is = ap₂ (source N) reader-is operand-is
+  reader-inside = omega (arith, at .reader, gate-reader d (at .within) .inside)
 
   pub gate-read : GateRead N e p x
   unfolding Sourced
   gate-read = record {
     inside = reader-inside;
-    few = operand-few;
-    new = omega (arith, wire-few, entries-few);
-    from = omega (arith, source-is, t .formed .sourced (getD (ownersIn plan) (m / 3) 0) (m % 3) (gate-reader d wire-few .inside) there);
+    few = at .few;
+    new = omega (arith, at .within, entries-few);
+    from = omega (arith, at .from, t .formed .sourced (getD (ownersIn plan) (m / 3) 0) (m % 3) (gate-reader d (at .within) .inside) (at .there));
   }
 
   -- how many gates it has
   module _ {s n : ℕ} (se : s ≡ source N x p) (ke : n ≡ shownFrom N f x s) where
     shown-is : n ≡ shownOn N f (zeroWord N) (getD (ownersIn plan) (m / 3) 0) (m % 3)
-    shown-is = ke ∙ ap₂ (shownFrom N f) reader-is (se ∙ source-is) ∙ sym (shown-from N f (getD (ownersIn plan) (m / 3) 0) (m % 3))
+    shown-is = ke ∙ ap₂ (shownFrom N f) (at .reader) (se ∙ at .from) ∙ sym (shown-from N f (getD (ownersIn plan) (m / 3) 0) (m % 3))
 
     pub wire-ungated : n ≡ 0 → GatesTo N f (ownersIn plan) (wordsIn plan) (lateIn plan) (sourcesIn plan) (3 * e + p + 1) total
-    wire-ungated z = gates-none d wire-few there (sym shown-is ∙ z)
+    wire-ungated z = gates-none d (at .within) (at .there) (sym shown-is ∙ z)
 
     pub wire-gated : (n ≡ 0 → ⊥) → {head lead origin wired steer clock from : ℕ} (put last : List ℕ) → head ≡ getD plan (4096 + (3 * e + p)) 0 → lead ≡ getD leads x 0 → origin ≡ f .origin
         → wired ≡ length (places N f (zeroWord N)) → steer ≡ wired + 1 + (origin - lead) → clock ≡ lead - origin
@@ -97,11 +78,11 @@ module _ {N : Net} {f : Timing} {leads roots passes : List ℕ} (plan : List ℕ
     unfolding firstOn
     wire-gated nz {head} {lead} {origin} {wired} {steer} {clock} {from} put last he le oe we be ce (q, ue) long pe fe =
         let z = source-put put last m from (gate-read .new) pe in
-        let lx : lead ≡ f .lead (getD (ownersIn plan) (m / 3) 0) = le ∙ t .leads-in x reader-inside ∙ ap (f .lead) reader-is in
+        let lx : lead ≡ f .lead (getD (ownersIn plan) (m / 3) 0) = le ∙ t .leads-in x reader-inside ∙ ap (f .lead) (at .reader) in
         let hh : head ≡ getD (sourcesIn plan) m 0 = he ∙ sym (section-read 4096 3072 plan m (gate-read .new)) in
         let steers : steer ≡ length (places N f (zeroWord N)) + suc (firstOn N f (zeroWord N) (getD (ownersIn plan) (m / 3) 0)) = omega arith in
         let time : clock ≡ f .lead (getD (ownersIn plan) (m / 3) 0) - f .origin = omega arith in
-        gates-as (z .1) (z .2 ∙ ue) (z .3) refl (gates-more d wire-few there shown-is (some n nz) hh time steers fe (pairs-as (se ∙ source-is) q) (z .0) (section-length 4096 3072 put (omega arith)))
+        gates-as (z .1) (z .2 ∙ ue) (z .3) refl (gates-more d (at .within) (at .there) shown-is (some n nz) hh time steers fe (pairs-as (se ∙ at .from) q) (z .0) (section-length 4096 3072 put (omega arith)))
       where
         some : (k : ℕ) → (k ≡ 0 → ⊥) → 0 < k
         some zero k = absurd (k refl)
@@ -115,14 +96,6 @@ module _ (N : Net) (f : Timing) {e : ℕ} (h : e < entryCount N f) where
   owner-still d d′ = let a = d .held e h in let b = d′ .held e h in cc (a, b)
 
   module _ {owners words late sources : List ℕ} {total : ℕ} where
-    rest-from : (n q : ℕ) → q + n ≡ 3 → operands (elementAt N (getD owners e 0)) ≤ q → GatesTo N f owners words late sources (3 * e + q) total → GatesTo N f owners words late sources (3 * e + 3) total
-    rest-from zero q s l d = gates-at (let z : 3 * e + q ≡ 3 * e + 3 = omega arith in z) d
-    rest-from (suc n) q s l d =
-        let a : e ≡ (3 * e + q) / 3 = omega arith in
-        let b : q ≡ (3 * e + q) % 3 = omega arith in
-        let none : operands (elementAt N (getD owners ((3 * e + q) / 3) 0)) ≤ (3 * e + q) % 3 = subst (λ (i : ℕ). operands (elementAt N (getD owners i 0)) ≤ (3 * e + q) % 3) a (subst (λ (i : ℕ). operands (elementAt N (getD owners e 0)) ≤ i) b l) in
-        rest-from n (q + 1) (omega arith) (omega arith) (gates-at (let z : 3 * e + q + 1 ≡ 3 * e + (q + 1) = omega arith in z) (gates-past d (omega arith) none))
-
     -- its places after the last operand have no wire
     pub gates-rest : {n : ℕ} → n ≡ operands (elementAt N (getD owners e 0)) → GatesTo N f owners words late sources (3 * e + n) total → GatesTo N f owners words late sources (3 * e + 3) total
-    gates-rest {n} q d = rest-from (3 - n) n (omega (arith, q, few-operands (elementAt N (getD owners e 0)))) (omega arith) d
+    gates-rest q d = rest-of N owners e (λ (m : ℕ). GatesTo N f owners words late sources m total) (λ m l none at. gates-past at (omega arith) none) q d

@@ -8,7 +8,8 @@ use Rattle.circuit.specs.Circuit.{netOf}
 use Rattle.retiming.specs.Modes.{modeTiming}
 use Rattle.plan.specs.Areas.{ownersIn, wordsIn, lateIn, firstsIn, sourcesIn}
 use Rattle.plan.specs.Registers.{entryCount, Laid}
-use Rattle.plan.specs.RegistersLaws.{laid-at, owner-is, owner-same, owner-inside, laid-rest, planning-as, laid-over, laid-stop}
+use Rattle.plan.specs.OperandAt.{owner-is}
+use Rattle.plan.specs.RegistersLaws.{laid-at, owner-same, owner-inside, laid-rest, planning-as, laid-over, laid-stop}
 use borrow.Author.Needs.{needs}
 use Rattle.plan.proofs.registers.lay_entry.Statement.{statement}
 use Rattle.plan.proofs.registers.lay_entry.Tie as tie

@@ -9,7 +9,7 @@ use Rattle.retiming.specs.Modes.{modeTiming}
 use Rattle.plan.specs.Areas.{ownersIn, wordsIn, lateIn, sourcesIn}
 use Rattle.plan.specs.Registers.{entryCount}
 use Rattle.plan.specs.RegistersRow.{reader-stands}
-use Rattle.plan.specs.RegistersLaws.{owner-is}
+use Rattle.plan.specs.OperandAt.{owner-is}
 use Rattle.plan.specs.PlanLaws.{places-length}
 use Rattle.steering.specs.GatesTo.{GatesTo}
 use Rattle.steering.specs.GatesArea.{gates-at, owner-still, gates-rest}
