@@ -107,10 +107,11 @@ pub fn wires_to(file: &[u8], net: &[u16], mode: Mode, timing: &[u16], v: usize) 
     requires { λ N. opened 𝓤 (now file) (now net) N (Timed N (modeTiming mode N) (now timing) × (length (now timing) ≡ 3072) × (v < size N)) }
     ensures { λ N r. ⌜ (r ≡ wireCount N (modeTiming mode N) v) × (r ≤ 3) ⌝ }
 {
-    if register(file, net, v) == 1 {
-        return 0;
-    }
+    // Registers follow no pattern, what stays does: the test that can be foreseen comes first.
     if stays(file, net, mode, timing, v) {
+        if register(file, net, v) == 1 {
+            return 0;
+        }
         return source_count(file, net, v);
     }
     0
@@ -122,8 +123,10 @@ fn rom_clock(file: &[u8], net: &[u16], mode: Mode, u: usize, n: usize) -> u16
     ensures { λ r. ⌜ r ≡ cond (isMemory (elementAt (netOf (now (file .entry)) (now (net .entry))) u))
         (askedClock (modeTiming mode (netOf (now (file .entry)) (now (net .entry))) .origin) n) 65535 ⌝ }
 {
+    // Found for any node, so that nothing branches on the kind, which follows no pattern.
+    let clock = asked_clock(n, origin_of(file, net, mode));
     if memory_bit(file, net, u) == 1 {
-        asked_clock(n, origin_of(file, net, mode))
+        clock
     } else {
         65535
     }

@@ -9,25 +9,25 @@ use borrow.Author.Needs.{needs}
 use Rattle.wiring.proofs.rom_clock.Statement.{statement}
 use Rattle.wiring.proofs.rom_clock.Tie as tie
 
-memory-bit-requires : tie.Need-memory-bit-requires
-memory-bit-requires c κs = search needs
-
 origin-of-requires : tie.Need-origin-of-requires
 origin-of-requires c κs = search needs
 
 asked-clock-requires : tie.Need-asked-clock-requires
 asked-clock-requires c κs = search needs
 
+memory-bit-requires : tie.Need-memory-bit-requires
+memory-bit-requires c κs = search needs
+
 returns : tie.Need-returns
 returns c =
     let a = c .before .before .before .before .before .before .args in
-    c .asked-clock .ensures ∙ ap (λ (o : ℕ). askedClock o (a .n)) (c .before .origin-of .ensures .0)
-    ∙ rom-some (elementAt (netOf (a .file .now) (a .net .now)) (a .u)) _ (c .before .before .before .memory-bit .ensures .0) (c .before .before .if1 .taken)
+    c .before .before .asked-clock .ensures ∙ ap (λ (o : ℕ). askedClock o (a .n)) (c .before .before .before .origin-of .ensures .0)
+    ∙ rom-some (elementAt (netOf (a .file .now) (a .net .now)) (a .u)) _ (c .before .memory-bit .ensures .0) (c .if1 .taken)
 
 returns-2 : tie.Need-returns-2
 returns-2 c =
-    let a = c .before .before .before .before .args in
+    let a = c .before .before .before .before .before .before .args in
     rom-none (elementAt (netOf (a .file .now) (a .net .now)) (a .u)) _ (c .before .memory-bit .ensures .0) (c .if1 .left)
 
 pub rom-clock-spec : {M : Type 1} → statement M
-rom-clock-spec = tie.close (tie.spec memory-bit-requires origin-of-requires asked-clock-requires returns returns-2)
+rom-clock-spec = tie.close (tie.spec origin-of-requires asked-clock-requires memory-bit-requires returns returns-2)
