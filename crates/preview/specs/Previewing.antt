@@ -84,7 +84,7 @@ module _ {s net : List ℕ} {r : Retimed} (t : LaysFile Plain s net r) where
   pub laid-last : Bytes s → {m : ℕ} → r ≡ Laid m → RegistersLast (netOf s net) (length (bySource (netOf s net)))
   laid-last b q =
       let (accepted, lead, laid) = laid-accepted Plain t q in
-      let p = past-13 s accepted in
+      let p = past-13 Plain s accepted in
       rw (laid .0) (rw (p .reads) (new-last s b p))
 
   module _ (l : List ℕ) where

@@ -17,7 +17,7 @@ use Rattle.retiming.specs.declared.Preview.the-variants as preview
 use Rattle.retiming.specs.declared.Mode.{Mode}
 use Rattle.retiming.specs.FileRewrite.{Rewrote, written, writtenAfter}
 use Rattle.retiming.specs.Modes.{modeFileVerdict, modeFile, modeRewrite}
-use Rattle.retiming.specs.ModeFiles.{mode-rewrite, mode-length}
+use Rattle.retiming.specs.RewrittenFile.{mode-rewrite, past-13, new-length}
 use Rattle.retiming.specs.Preview.{previewFile}
 use Rattle.retiming.specs.PreviewLaws.{fits-within}
 use Rattle.punqelis.specs.Code.{answerOf}
@@ -35,7 +35,7 @@ pub rewrite-within : (mode : Mode) (s out : List ℕ) → Bytes s → LengthWith
 rewrite-within mode s out b = subst (λ (w : Rewrote). LengthWithin 65535 (w .answer)) (sym (mode-rewrite mode s out)) (by-verdict (modeFileVerdict mode s) refl)
   where
     by-verdict : (v : Verdict) → modeFileVerdict mode s ≡ v → LengthWithin 65535 (writtenAfter v (modeFile mode s) out .answer)
-    by-verdict Fine e = written-within (modeFile mode s) out (let l = mode-length mode s b e in omega arith)
+    by-verdict Fine e = written-within (modeFile mode s) out (let l = new-length mode s b (past-13 mode s e) in omega arith)
     by-verdict (Refuses k p) e = refused-within
 
 pub preview-within : (s l : List ℕ) → Bytes s → LengthWithin 65535 (answerOf (previewFile s l .preview))

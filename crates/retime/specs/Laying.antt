@@ -28,7 +28,7 @@ use Rattle.retiming.specs.Debt.{grown}
 use Rattle.retiming.specs.Preview.{largestLead}
 use Rattle.retiming.specs.Modes.{modeClosed, modeOwing, modeTiming, modeNet, modeVerdict, modeFileVerdict}
 use Rattle.retiming.specs.ModeLaws.{mode-suits, mode-net}
-use Rattle.retiming.specs.ModeFiles.{mode-judged}
+use Rattle.retiming.specs.RewrittenFile.{mode-judged}
 use Rattle.leads.specs.Debts.{debtsVerdict, debts-first}
 use Rattle.leads.specs.Settled.{LeadsIn}
 use Rattle.wires.specs.Traced.{rootsIn, passesIn, AllTraced}

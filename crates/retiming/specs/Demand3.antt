@@ -19,6 +19,7 @@ use Rattle.behaviour.specs.FilesRun.{files-run}
 use Rattle.retiming.specs.Rewrite.{rewritten}
 use Rattle.retiming.specs.FileRewrite.{IsAccepted, rewrittenFile, rewriteFile, NoAsynchronous}
 use Rattle.retiming.specs.RewrittenFile.{Past13, past-13, accepted-written, netlists-alike, reads-new, passes-reader, no-asynchronous}
+use Rattle.retiming.specs.declared.Mode.the-variants.{Plain}
 
 pub demand-3 : (s s′ : List ℕ) → Bytes s → IsAccepted s → s′ ≡ rewrittenFile s
     -- the rewriter writes s′ into any output that is long enough, and says how long it is; what is past it stays
@@ -41,9 +42,9 @@ pub demand-3 : (s s′ : List ℕ) → Bytes s → IsAccepted s → s′ ≡ rew
     → (stateAfter s (resetFile s st .state) (es ++ x ∷ []) ≡ stateAfter s (resetFile s st .state) es)
     × (stateAfter s′ (resetFile s′ st′ .state) (es ++ x ∷ []) ≡ stateAfter s′ (resetFile s′ st′ .state) es)))))
 demand-3 s s′ b a e =
-    let t : Past13 s = past-13 s a in (
-      rw e (λ out. accepted-written s out a),
-      ap fileVerdict e ∙ passes-reader s b t,
-      rw e (no-asynchronous s b t),
-      files-run s s′ (t .net) (rewritten (t .net)) (netlists-alike s b t) (t .reads) (ap decode e ∙ reads-new s b t),
+    let t : Past13 Plain s = past-13 Plain s a in (
+      rw e (λ out. accepted-written Plain s out a),
+      ap fileVerdict e ∙ passes-reader Plain s b t,
+      rw e (no-asynchronous Plain s b t),
+      files-run s s′ (t .net) (rewritten (t .net)) (netlists-alike Plain s b t) (t .reads) (ap decode e ∙ reads-new Plain s b t),
     )

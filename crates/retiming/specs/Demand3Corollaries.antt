@@ -16,6 +16,7 @@ use Rattle.retiming.specs.Rewrite.{rewritten}
 use Rattle.retiming.specs.FileRewrite.{IsAccepted, rewrittenFile}
 use Rattle.retiming.specs.RewrittenFile.{Past13, past-13, netlists-alike, reads-new}
 use Rattle.retiming.specs.Demand3.{demand-3}
+use Rattle.retiming.specs.declared.Mode.the-variants.{Plain}
 
 module _ (s s′ : List ℕ) (b : Bytes s) (a : IsAccepted s) (e : s′ ≡ rewrittenFile s) (st st′ : List ℕ) (h : length st ≡ stateBytes s) (h′ : length st′ ≡ stateBytes s′) where
   -- each of the first k entries is chosen after what the runs before it showed
@@ -29,9 +30,9 @@ module _ (s s′ : List ℕ) (b : Bytes s) (a : IsAccepted s) (e : s′ ≡ rewr
   pub demand-3-states : (es : List Entry)
       → (stateFits s (stateAfter s (resetFile s st .state) es) ≡ true) × (stateFits s′ (stateAfter s′ (resetFile s′ st′ .state) es) ≡ true)
   demand-3-states es =
-      let t : Past13 s = past-13 s a in
-      let ok = netlists-alike s b t in
-      let reads′ = ap decode e ∙ reads-new s b t in (
+      let t : Past13 Plain s = past-13 Plain s a in
+      let ok = netlists-alike Plain s b t in
+      let reads′ = ap decode e ∙ reads-new Plain s b t in (
         rw (reset-accepted s (t .net) (ok .old) (t .reads) st h) (states-fit s (t .net) (ok .old) (t .reads) (bytesOf (resetState (t .net))) (reset-fitted (t .net) (ok .old)) es),
         rw (reset-accepted s′ (rewritten (t .net)) (ok .new) reads′ st′ h′)
             (states-fit s′ (rewritten (t .net)) (ok .new) reads′ (bytesOf (resetState (rewritten (t .net)))) (reset-fitted (rewritten (t .net)) (ok .new)) es),

@@ -7,19 +7,13 @@ use native.Mathlib.Omega.{arith}
 use borrow.Author.Tests.{lt-ltb, ltb-true}
 use Rattle.lists.specs.BelowLaws.{true-or-false}
 use Rattle.netlist.specs.Net.{Net, size, elementAt, isInput, Sourced}
-use Rattle.netlist.specs.declared.Verdict.the-variants.{Fine, Refuses}
-use Rattle.netlist.specs.Verdict.{readerVerdict}
-use Rattle.netlist.specs.Checks.{FieldsFit, WellFormed}
-use Rattle.netlist.specs.VerdictLaws.{reader-fine}
-use Rattle.behaviour.specs.Alike.{Alike}
-use Rattle.retiming.specs.LateLeads.{atOutput, lateEnds, closedDebtTo, owingPortTo, portDebtTo}
+use Rattle.netlist.specs.declared.Verdict.the-variants.{Refuses}
+use Rattle.retiming.specs.LateLeads.{atOutput, lateEnds, closedDebtTo, owingPortTo}
 use Rattle.retiming.specs.LateLeadsLaws.{PositiveClosedTo, closed-debt-iff, OwesTo, owes-iff, owing-is, is-owing}
 use Rattle.retiming.specs.LateRewrite.{lateStarted}
-use Rattle.retiming.specs.LateRetimed.{late-alike}
 use Rattle.retiming.specs.Debt.{grown}
 use Rattle.retiming.specs.LateDebt.{lateStages, lateVerdict}
-use Rattle.retiming.specs.PastDebt.{bounded, no-port}
-use Rattle.retiming.specs.ThreeChecks.{LowestAt, NoneAt, says-11-iff, says-12-iff, says-13-iff, says-fine-only}
+use Rattle.retiming.specs.ThreeChecks.{LowestAt, NoneAt, says-11-iff, says-12-iff, says-13-iff}
 
 -- a closed walk from which an output port can be reached has positive excess
 abbrev pub LateClosed : Net → Type 0
@@ -99,18 +93,3 @@ module _ (N : Net) (sourced : Sourced N) where
         λ e. let a = r .0 e in (no-closed (a .0), from-none (a .0) (a .1), ltb-true 1024 (size (lateStarted N)) (a .2)),
         λ (c, n, g). r .1 (closed-none c, to-none (closed-none c) n, lt-ltb 1024 (size (lateStarted N)) g),
       )
-
--- ---- what they leave
-
-pub no-late-debt : (N : Net) → lateVerdict N ≡ Fine → (closedDebtTo N (lateEnds N) ≡ false) × (portDebtTo N (lateEnds N) ≡ false) × (grown (lateStarted N) ≡ false)
-unfolding lateVerdict lateStages portDebtTo
-no-late-debt N e =
-    let r = says-fine-only (closedDebtTo N (lateEnds N)) (size N) (owingPortTo N (lateEnds N)) (grown (lateStarted N)) e in
-    (r .0, no-port (size N) (owingPortTo N (lateEnds N)) (r .1), r .2)
-
--- THE THEOREM, over netlists
-pub past-late-alike : (N : Net) → FieldsFit N → readerVerdict N ≡ Fine → lateVerdict N ≡ Fine → Alike N (lateStarted N)
-past-late-alike N fit e d =
-    let s = no-late-debt N d in
-    let wf : WellFormed N = reader-fine N fit e in
-    late-alike N wf (s .0) (s .1) (bounded (lateStarted N) (s .2))

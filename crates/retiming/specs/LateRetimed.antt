@@ -10,20 +10,18 @@ use borrow.Author.Tests.{lt-ltb, ltb-true}
 use Rattle.netlist.specs.declared.Element.{Element}
 use Rattle.netlist.specs.declared.Element.the-variants.{Input, Output, Register, Async, Clocked, Gate}
 use Rattle.lists.specs.BelowLaws.{true-or-false, lt-or-le, anyBelow-none}
-use Rattle.netlist.specs.Net.{Net, size, elementAt, operands, isInput, isOutput, isAsync, Sourced}
+use Rattle.netlist.specs.Net.{Net, size, elementAt, operands, isInput, isOutput, Sourced}
 use Rattle.netlist.specs.Reach.{Reads}
-use Rattle.netlist.specs.Checks.{Bounds, WellFormed}
+use Rattle.netlist.specs.Checks.{WellFormed}
 use Rattle.behaviour.specs.Meaning.{settles}
-use Rattle.behaviour.specs.Alike.{Alike}
 use Rattle.retiming.specs.Leads.{Walk, here, step}
 use Rattle.retiming.specs.Rewrite.{Timing}
 use Rattle.retiming.specs.LateLeads.{atOutput, lateEnds, origin, Counts, leadTo, closedDebtTo, owingPortTo, portDebtTo}
 use Rattle.retiming.specs.LateLeadsLaws.{lead-serves, lead-back, lead-reached, origin-positive, counts-lead, lead-unread}
-use Rattle.retiming.specs.LateRewrite.{timingToBy, timingTo, lateTiming, lateStarted}
+use Rattle.retiming.specs.LateRewrite.{timingToBy, timingTo, lateTiming}
 use Rattle.retiming.specs.Wires.{ServesKept, ringless-rooted}
 use Rattle.retiming.specs.Candidate.{Retimes}
 use Rattle.retiming.specs.Rules.{registers-fit}
-use Rattle.retiming.specs.Retimed.{retimed-alike, retimed-clocked}
 
 -- where walks that count may end: at output ports, and at nodes from a reader of which a walk counts
 pub record Ends (N : Net) (ends : ℕ → Bool) : Type 0 where
@@ -132,11 +130,3 @@ module _ (N : Net) (wf : WellFormed N) (debtless : closedDebtTo N (lateEnds N) �
   pub late-retimes : Retimes N (lateTiming N)
   unfolding lateTiming
   late-retimes = retimes N (lateEnds N) wf (late-ends N) debtless portless
-
-  pub late-alike : Bounds (lateStarted N) → Alike N (lateStarted N)
-  unfolding lateStarted
-  late-alike = retimed-alike N wf (lateTiming N) late-retimes
-
-  pub late-clocked : (i : ℕ) → i < size (lateStarted N) → isAsync (elementAt (lateStarted N) i) ≡ false
-  unfolding lateStarted
-  late-clocked = retimed-clocked N wf (lateTiming N) late-retimes

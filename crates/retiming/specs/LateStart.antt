@@ -17,7 +17,8 @@ use Rattle.behaviour.specs.FilesRun.{files-run}
 use Rattle.retiming.specs.FileRewrite.{NoAsynchronous}
 use Rattle.retiming.specs.LateRewrite.{lateStarted}
 use Rattle.retiming.specs.LateFile.{IsLateAccepted, lateFile, lateRewrite}
-use Rattle.retiming.specs.LateStartedFile.{PastLate, past-late, late-written, late-netlists-alike, reads-late, late-passes-reader, late-no-asynchronous}
+use Rattle.retiming.specs.RewrittenFile.{Past13, past-13, accepted-written, netlists-alike, reads-new, passes-reader, no-asynchronous}
+use Rattle.retiming.specs.declared.Mode.the-variants.{Late}
 
 pub late-start : (s s′ : List ℕ) → Bytes s → IsLateAccepted s → s′ ≡ lateFile s
     -- the late start writes s′ into any output that is long enough, and says how long it is; what is past it stays
@@ -40,9 +41,9 @@ pub late-start : (s s′ : List ℕ) → Bytes s → IsLateAccepted s → s′ �
     → (stateAfter s (resetFile s st .state) (es ++ x ∷ []) ≡ stateAfter s (resetFile s st .state) es)
     × (stateAfter s′ (resetFile s′ st′ .state) (es ++ x ∷ []) ≡ stateAfter s′ (resetFile s′ st′ .state) es)))))
 late-start s s′ b a e =
-    let t : PastLate s = past-late s a in (
-      rw e (λ out. late-written s out a),
-      ap fileVerdict e ∙ late-passes-reader s b t,
-      rw e (late-no-asynchronous s b t),
-      files-run s s′ (t .net) (lateStarted (t .net)) (late-netlists-alike s b t) (t .reads) (ap decode e ∙ reads-late s b t),
+    let t : Past13 Late s = past-13 Late s a in (
+      rw e (λ out. accepted-written Late s out a),
+      ap fileVerdict e ∙ passes-reader Late s b t,
+      rw e (no-asynchronous Late s b t),
+      files-run s s′ (t .net) (lateStarted (t .net)) (netlists-alike Late s b t) (t .reads) (ap decode e ∙ reads-new Late s b t),
     )

@@ -45,6 +45,8 @@ pub mod PastDebt
 pub mod DebtLaws
 pub mod Past
 pub mod NewFile
+pub mod Modes
+pub mod ModeLaws
 pub mod RewrittenFile
 pub mod Demand3
 pub mod Demand3Corollaries
@@ -64,12 +66,8 @@ pub mod RunningOffset
 pub mod Respelled
 pub mod AnswerAlike
 pub mod LateDebtLaws
-pub mod LateStartedFile
 pub mod LateStart
 pub mod LateRefusals
-pub mod Modes
-pub mod ModeLaws
-pub mod ModeFiles
 pub mod Computing
 pub mod Bench
 pub mod LateBench

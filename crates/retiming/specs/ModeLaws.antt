@@ -10,6 +10,7 @@ use borrow.Author.Tests.{lt-ltb}
 use Rattle.lists.specs.BelowLaws.{true-or-false, countBelow-le}
 use Rattle.netlist.specs.Net.{Net, size, elementAt, isInput, isAsync}
 use Rattle.netlist.specs.Checks.{WellFormed}
+use Rattle.netlist.specs.declared.Verdict.the-variants.{Fine}
 use Rattle.netlist.specs.Verdict.{atLowest, ofWhole, verdict}
 use Rattle.behaviour.specs.Run.{zeroWord}
 use Rattle.retiming.specs.declared.Mode.{Mode}
@@ -25,6 +26,7 @@ use Rattle.retiming.specs.LateDebt.{lateStages, lateVerdict}
 use Rattle.retiming.specs.Candidate.{Retimes}
 use Rattle.retiming.specs.Retimed.{retimes, rewritten-is}
 use Rattle.retiming.specs.LateRetimed.{late-retimes}
+use Rattle.retiming.specs.ThreeChecks.{says-fine-only}
 use Rattle.retiming.specs.PastDebt.{no-port}
 use Rattle.retiming.specs.Modes.{modeClosed, modeOwing, modeTiming, modeNet, modeVerdict}
 
@@ -42,6 +44,10 @@ pub mode-stages : (mode : Mode) (N : Net)
 unfolding debtVerdict debtStages lateVerdict lateStages
 mode-stages Plain N = refl
 mode-stages Late N = refl
+
+-- what they leave
+pub mode-clear : (mode : Mode) (N : Net) → modeVerdict mode N ≡ Fine → (modeClosed mode N ≡ false) × ((v : ℕ) → v < size N → modeOwing mode N v ≡ false) × (grown (modeNet mode N) ≡ false)
+mode-clear mode N e = says-fine-only (modeClosed mode N) (size N) (modeOwing mode N) (grown (modeNet mode N)) (sym (mode-stages mode N) ∙ e)
 
 module _ (N : Net) (wf : WellFormed N) where
   roms-few : romCount N ≤ 1024

@@ -17,19 +17,20 @@ use Rattle.retiming.specs.BySource.{bySource, byReader}
 use Rattle.retiming.specs.BySourceLaws.{total-by-source}
 use Rattle.retiming.specs.RegistersLast.{RegistersLast, registers-last, source-count}
 use Rattle.retiming.specs.TotalByReader.{total-by-reader}
+use Rattle.retiming.specs.declared.Mode.the-variants.{Plain}
 
-module _ (s : List ℕ) (b : Bytes s) (t : Past13 s) where
+module _ (s : List ℕ) (b : Bytes s) (t : Past13 Plain s) where
   abbrev new : Net
   new = rewritten (t .net)
 
   timed : Retimes (t .net) (timing (t .net))
-  timed = let d = no-debt (t .net) (t .debtless) in retimes (t .net) (netlists-alike s b t .old) (d .0) (d .1)
+  timed = let d = no-debt (t .net) (t .debtless) in retimes (t .net) (netlists-alike Plain s b t .old) (d .0) (d .1)
 
   pub new-sourced : Sourced new
-  new-sourced = netlists-alike s b t .new .sourced
+  new-sourced = netlists-alike Plain s b t .new .sourced
 
   pub new-rooted : Rooted new
-  new-rooted = ringless-rooted new new-sourced (netlists-alike s b t .new .no-ring)
+  new-rooted = ringless-rooted new new-sourced (netlists-alike Plain s b t .new .no-ring)
 
   pub new-last : RegistersLast new (length (bySource new))
   unfolding rewritten

@@ -27,6 +27,7 @@ use Rattle.retiming.specs.RewrittenFile.{Past13, past-13, netlists-alike
 use Rattle.retiming.specs.Preview.{measured, sizeOf, sourceBytes, previewFile}
 use Rattle.retiming.specs.LargestLead.{LargestOfAll, largest-of-all}
 use Rattle.retiming.specs.PreviewLaws.{preview-refused, fits-past, fits-size, at-most-13, refused-written, fits-written, clocked-kind-4, register-kind-2, length-source-bytes}
+use Rattle.retiming.specs.declared.Mode.the-variants.{Plain}
 
 -- the netlist that was read has so many nodes of kind 4 and so many of kind 2
 abbrev pub Counted : Size → Decoded → Type 0
@@ -57,18 +58,18 @@ preview-agrees s l b = by-preview (previewFile s l .preview) refl
   where
     by-preview : (r : Preview) → previewFile s l .preview ≡ r → Agrees s l r
     by-preview (Fits z) e =
-        let t : Past13 s = fits-past s l e in
+        let t : Past13 Plain s = fits-past s l e in
         let M = rewritten (t .net) in
         let q : z ≡ sizeOf (t .net) = fits-size s l e in (
           λ out long.
               let w = fits-written s l b e out long in
               (w .0, rw (w .1) (clocked-kind-4 M ∙ sym (ap (λ (y : Size). y .clocked) q), register-kind-2 M ∙ sym (ap (λ (y : Size). y .registers) q))),
-          rw (t .reads) (subst (LargestOfAll (t .net)) (sym (ap (λ (y : Size). y .lead) q)) (largest-of-all (t .net) (netlists-alike s b t .old .sourced) (no-debt (t .net) (t .debtless) .0))),
+          rw (t .reads) (subst (LargestOfAll (t .net)) (sym (ap (λ (y : Size). y .lead) q)) (largest-of-all (t .net) (netlists-alike Plain s b t .old .sourced) (no-debt (t .net) (t .debtless) .0))),
         )
     by-preview (Refused k p) e =
         ⊎-elim (λ v. inl (at-most-13 s v, refused-written s v))
         (λ (a, n, q, short).
-        let t : Past13 s = past-13 s a in
+        let t : Past13 Plain s = past-13 Plain s a in
         let e : length (sourceBytes (rewritten (decodedNet (decode s)))) ≡ length (sourceBytes (rewritten (t .net))) = ap (λ (d : Decoded). length (sourceBytes (rewritten (decodedNet d)))) (t .reads) in
-        inr (n, q, a, rw (reads-new s b t) (omega (arith, length-source-bytes (rewritten (t .net))))))
+        inr (n, q, a, rw (reads-new Plain s b t) (omega (arith, length-source-bytes (rewritten (t .net))))))
         (preview-refused s l e)

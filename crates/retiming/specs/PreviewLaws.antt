@@ -33,6 +33,7 @@ use Rattle.retiming.specs.RewrittenFile.{Past13, past-13, file-is, netli
 use Rattle.retiming.specs.BySource.{bySource}
 use Rattle.retiming.specs.BySourceLaws.{length-by-source}
 use Rattle.retiming.specs.Preview.{measured, sizeOf, previewBy, sourceBytes, previewFile}
+use Rattle.retiming.specs.declared.Mode.the-variants.{Plain}
 
 -- ---- the verdict behind a preview
 
@@ -70,15 +71,15 @@ module _ (s l : List ℕ) {z : Size} (e : previewFile s l .preview ≡ Fits z) w
   fits-accepted : IsAccepted s
   fits-accepted = both-fine (rewriterVerdict s) (outVerdict (bytes s) l) (fits .0) .0
 
-  pub fits-past : Past13 s
-  fits-past = past-13 s fits-accepted
+  pub fits-past : Past13 Plain s
+  fits-past = past-13 Plain s fits-accepted
 
   pub fits-size : z ≡ sizeOf (fits-past .net)
   fits-size = fits .1 ∙ ap (λ (d : Decoded). sizeOf (decodedNet d)) (fits-past .reads)
 
   fits-length : z .length ≡ length (rewrittenFile s)
   unfolding sizeOf measured
-  fits-length = ap (λ (y : Size). y .length) fits-size ∙ sym (ap (λ (b : List ℕ). length b) (file-is s fits-past))
+  fits-length = ap (λ (y : Size). y .length) fits-size ∙ sym (ap (λ (b : List ℕ). length b) (file-is Plain s fits-past))
 
   fits-bytes : bytes s ≡ sourceBytes (rewritten (fits-past .net))
   fits-bytes = ap (λ (d : Decoded). sourceBytes (rewritten (decodedNet d))) (fits-past .reads)
@@ -127,7 +128,7 @@ refused-written s e out = ap (λ (v : Verdict). writtenAfter v (rewrittenFile s)
 module _ (s l : List ℕ) (b : Bytes s) {z : Size} (e : previewFile s l .preview ≡ Fits z) where
   -- no longer than document 01's limits allow
   pub fits-within : z .length ≤ 45175
-  fits-within = omega (arith, fits-length s l e, new-length s b (fits-past s l e))
+  fits-within = omega (arith, fits-length s l e, new-length Plain s b (fits-past s l e))
 
   -- as long as the preview says, and read as the rewritten netlist
   pub fits-written : (out : List ℕ) → z .length ≤ length out
@@ -135,12 +136,12 @@ module _ (s l : List ℕ) (b : Bytes s) {z : Size} (e : previewFile s l .preview
   fits-written out long =
       let n = fits-length s l e in
       let f = rewrittenFile s in
-      let w = accepted-written s out (fits-accepted s l e) (omega arith) in (
+      let w = accepted-written Plain s out (fits-accepted s l e) (omega arith) in (
         ap (λ (r : Rewrote). r .answer) w ∙ ap Accepted (sym n),
         ap (λ (r : Rewrote). decode (take (z .length) (r .out))) w
             ∙ ap (λ (k : ℕ). decode (take k (f ++ drop (length f) out))) n
             ∙ ap decode (take-append-seam f (drop (length f) out))
-            ∙ reads-new s b (fits-past s l e),
+            ∙ reads-new Plain s b (fits-past s l e),
       )
 
 -- a class by its number in the file
@@ -176,8 +177,8 @@ length-source-bytes M =
 pub always-enough : (s l : List ℕ) → Bytes s → IsAccepted s → 2048 ≤ length l → previewFile s l .preview ≡ Fits (sizeOf (decodedNet (decode s)))
 unfolding previewFile
 always-enough s l b a long =
-    let t : Past13 s = past-13 s a in
+    let t : Past13 Plain s = past-13 Plain s a in
     let M = rewritten (t .net) in
     let same : length (bytes s) ≡ length (sourceBytes M) = ap (λ (d : Decoded). length (sourceBytes (rewritten (decodedNet d)))) (t .reads) in
-    let few : length (bytes s) ≤ length l = omega (arith, length-source-bytes M, countBelow-le (λ v. not (eqb (kindOf (elementAt M v)) 2)) (size M), netlists-alike s b t .new .fields .bounds .nodes) in
+    let few : length (bytes s) ≤ length l = omega (arith, length-source-bytes M, countBelow-le (λ v. not (eqb (kindOf (elementAt M v)) 2)) (size M), netlists-alike Plain s b t .new .fields .bounds .nodes) in
     ap₂ (λ (v w : Verdict). previewBy (onward v w) (sizeOf (decodedNet (decode s)))) a (out-long (bytes s) l few)

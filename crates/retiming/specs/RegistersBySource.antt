@@ -25,6 +25,7 @@ use Rattle.retiming.specs.BySourceLaws.{FromSource, from-source}
 use Rattle.retiming.specs.NewRegisters.{new-sourced, new-rooted, sum-by-source, sum-by-reader}
 use Rattle.retiming.specs.Preview.{measured, sizeOf, sourceBytes, previewFile}
 use Rattle.retiming.specs.PreviewLaws.{fits-past, fits-size, fits-room, fits-list, fits-written, refused-list}
+use Rattle.retiming.specs.declared.Mode.the-variants.{Plain}
 
 -- by source: register s of a netlist M is counted at u, which is none, just when s reads u, or a register that does so
 abbrev pub SourcesByHand : Net → Type 0
@@ -51,7 +52,7 @@ registers-by-source s l b = by-preview (previewFile s l .preview) refl
   where
     by-preview : (r : Preview) → previewFile s l .preview ≡ r → GivesList s l (previewFile s l .list) r
     by-preview (Fits z) e =
-        let t : Past13 s = fits-past s l e in
+        let t : Past13 Plain s = fits-past s l e in
         let M = rewritten (t .net) in
         let q : z ≡ sizeOf (t .net) = fits-size s l e in
         let n : length (bySource M) ≡ z .sources = sym (ap (λ (y : Size). y .sources) q) in

@@ -16,6 +16,7 @@ use Rattle.codec.specs.FieldOffsets.{Running, running}
 use Rattle.retiming.specs.Rewrite.{rewritten}
 use Rattle.retiming.specs.FileRewrite.{IsAccepted, rewrittenFile, Rewrote, rewriteFile}
 use Rattle.retiming.specs.RewrittenFile.{past-13, accepted-written, file-is, reads-new}
+use Rattle.retiming.specs.declared.Mode.the-variants.{Plain}
 
 -- the netlist that is read from the rewritten file
 abbrev pub newNet : List ℕ → Net
@@ -24,8 +25,8 @@ newNet s = decodedNet (decode (rewrittenFile s))
 pub running-offset : (s out : List ℕ) → Bytes s → IsAccepted s → length (rewrittenFile s) ≤ length out
     → Running (newNet s) (rewrittenFile s) × (rewriteFile s out .answer ≡ Accepted (offsetOf (newNet s) (length (fieldsOf (newNet s)))))
 running-offset s out b a long =
-    let t = past-13 s a in
+    let t = past-13 Plain s a in
     let N : Net = rewritten (t .net) in
-    let is : newNet s ≡ N = ap decodedNet (reads-new s b t) in
-    let runs : Running (newNet s) (rewrittenFile s) = subst (λ (M : Net). Running M (rewrittenFile s)) (sym is) (subst (Running N) (sym (file-is s t)) (running N)) in
-    (runs, ap (λ (r : Rewrote). r .answer) (accepted-written s out a long) ∙ ap Accepted (sym (runs .last)))
+    let is : newNet s ≡ N = ap decodedNet (reads-new Plain s b t) in
+    let runs : Running (newNet s) (rewrittenFile s) = subst (λ (M : Net). Running M (rewrittenFile s)) (sym is) (subst (Running N) (sym (file-is Plain s t)) (running N)) in
+    (runs, ap (λ (r : Rewrote). r .answer) (accepted-written Plain s out a long) ∙ ap Accepted (sym (runs .last)))

@@ -20,7 +20,7 @@ use Rattle.retiming.specs.declared.Mode.{Mode}
 use Rattle.retiming.specs.FileRewrite.{Rewrote, writtenBy, written, writtenAfter}
 use Rattle.retiming.specs.OutLaws.{out-short, out-long}
 use Rattle.retiming.specs.Modes.{modeFileVerdict, modeFile, modeRewrite}
-use Rattle.retiming.specs.ModeFiles.{mode-rewrite, mode-file}
+use Rattle.retiming.specs.RewrittenFile.{mode-rewrite, mode-file}
 use Rattle.retime.specs.declared.Retimed.{Retimed}
 use Rattle.retime.specs.declared.Retimed.the-variants.{Laid}
 use Rattle.retime.specs.declared.Retimed.the-variants as retimed
