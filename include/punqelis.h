@@ -24,7 +24,8 @@
  * There is no heap. Of the stack both rewritings and the preview take 87 KiB and every other
  * function at most 43 KiB, as measured.
  *
- * Refusals, in the order in which they are looked for:
+ * Refusals, in the order in which they are looked for. 17 came later; it counts among 1 to 10, and
+ * where a function is said to check 1 to 10, it checks 17 with them:
  *    1 long         the file has over 46,000 bytes                        place 0
  *    2 short        a field passes the file's end, or the end is missing  offset in the file
  *    3 tag          unknown tag, wrong order, bad head or end, or more    offset in the file
@@ -35,6 +36,7 @@
  *    6 source       no such node or table, or an output port as source    lowest such node
  *    7 width        a width rule is broken                                lowest such node
  *    8 unread       no reader, and not a port                             lowest such node
+ *   17 table unread no node reads it                                      lowest such table
  *    9 loop         a loop of gates and asynchronous ROMs                 lowest node on one
  *   10 ring         a ring of registers alone                             lowest node on one
  *   11 closed debt  a loop with more asynchronous ROMs than registers     place 65,535
@@ -99,7 +101,8 @@ uint32_t punqelis_rewrite(const uint8_t *file, size_t file_len,
  * new file shows the old reset words by choose gates: for each of them it has a constant and a gate
  * more, and once a chain of one-bit registers, filled with 1 from a constant, that steers the
  * gates. These nodes stand behind all others. Nodes from which no output port can be reached are
- * left out, ports excepted; tables stay.
+ * left out, ports excepted, and with them the tables that no other node reads. The other tables
+ * stay in their order, byte by byte, and are numbered anew.
  * 11 counts only loops that can reach an output port, 12 only walks from an input port to an
  * output port. 13 counts the added nodes, so that it can come here where punqelis_rewrite accepts
  * the file; 11 and 12 cannot. The preview is of punqelis_rewrite alone. */

@@ -1,9 +1,9 @@
-//! Checks 6 to 10, each over the whole netlist, and the orders in which the layers above go
+//! Checks 6 to 10, and 17 among them, each over the whole netlist, and the orders in which the layers above go
 //! through it.
 
 use crate::format;
-use crate::netlist::{Kind, Netlist, Node};
-use crate::refusal::{refuse, Answer, Refusal, LOOP, RING, SOURCE, UNREAD, WIDTH};
+use crate::netlist::{tables_read, Kind, Netlist, Node};
+use crate::refusal::{refuse, Answer, Refusal, LOOP, RING, SOURCE, UNREAD, UNREAD_TABLE, WIDTH};
 
 /// A netlist that passed checks 1 to 10.
 pub struct Checked<'a> {
@@ -24,6 +24,7 @@ pub fn checked(file: &[u8]) -> Result<Checked<'_>, Refusal> {
     let read = sources(&netlist)?;
     widths(&netlist)?;
     unread(&netlist.nodes, &read)?;
+    unread_tables(&netlist)?;
     let order = evaluation_order(&netlist.nodes)?;
     let registers = register_order(&netlist)?;
     Ok(Checked {
@@ -82,6 +83,15 @@ fn unread(nodes: &[Node], read: &[bool]) -> Result<(), Refusal> {
     let mut both = nodes.iter().zip(read);
     match both.position(|(node, read)| !read && !node.kind.is_port()) {
         Some(number) => refuse(UNREAD, number),
+        None => Ok(()),
+    }
+}
+
+/// Check 17.
+fn unread_tables(netlist: &Netlist) -> Result<(), Refusal> {
+    let read = tables_read(&netlist.nodes, netlist.tables.len());
+    match read.iter().position(|read| !read) {
+        Some(number) => refuse(UNREAD_TABLE, number),
         None => Ok(()),
     }
 }

@@ -1,7 +1,7 @@
 //! A netlist under construction. Nothing is checked here: tests build bad netlists too.
 
 use crate::format;
-use crate::netlist::{mask, Kind, Netlist, Node, Table};
+use crate::netlist::{leave_out_unread, mask, Kind, Netlist, Node, Table};
 
 #[derive(Clone, Default)]
 pub struct Design {
@@ -113,6 +113,11 @@ impl Design {
         }
         let unread = |n: &u16| !read[usize::from(*n)] && !self.kind(*n).is_port();
         (0..self.nodes.len() as u16).filter(unread).collect()
+    }
+
+    /// Leaves out the tables that nothing reads.
+    pub fn leave_out_unread_tables(&mut self) {
+        leave_out_unread(&mut self.tables, &mut self.nodes);
     }
 
     pub fn reverse(&mut self) {

@@ -136,6 +136,27 @@ impl Netlist<'_> {
     }
 }
 
+/// Which of so many tables a ROM reads.
+pub fn tables_read(nodes: &[Node], tables: usize) -> Vec<bool> {
+    let mut read = vec![false; tables];
+    for node in nodes.iter().filter(|node| node.kind.is_rom()) {
+        read[usize::from(node.table)] = true;
+    }
+    read
+}
+
+/// Leaves out the tables that no ROM reads, and numbers the others anew.
+pub fn leave_out_unread<T>(tables: &mut Vec<T>, nodes: &mut [Node]) {
+    let read = tables_read(nodes, tables.len());
+    let number = |table: u8| read[..usize::from(table)].iter().filter(|&&r| r).count() as u8;
+    let numbers: Vec<u8> = (0..tables.len() as u8).map(number).collect();
+    for node in nodes.iter_mut().filter(|node| node.kind.is_rom()) {
+        node.table = numbers[usize::from(node.table)];
+    }
+    let mut read = read.into_iter();
+    tables.retain(|_| read.next() == Some(true));
+}
+
 /// Whether the word is below 2^width.
 pub fn fits(word: u16, width: u8) -> bool {
     u32::from(word) >> width == 0

@@ -18,8 +18,13 @@ pub const GROWN: u16 = 13;
 pub const OUT: u16 = 14;
 pub const WORDS: u16 = 15;
 pub const STATE: u16 = 16;
+/// Checked directly after 8, and counted among 1 to 10.
+pub const UNREAD_TABLE: u16 = 17;
 
-/// The place of a refusal that concerns no field and no node.
+/// One more than the largest number of a refusal: counters by number are so many.
+pub const NUMBERS: usize = 18;
+
+/// The place of a refusal that concerns no field, no node and no table.
 pub const NOWHERE: usize = 65_535;
 
 #[derive(Clone, Copy, Debug, PartialEq, Eq)]
@@ -32,13 +37,18 @@ pub struct Refusal {
 pub type Answer = Result<usize, Refusal>;
 
 impl Refusal {
-    /// Places are offsets (at most 46,000), node numbers, or [`NOWHERE`]: all fit.
+    /// Places are offsets (at most 46,000), numbers of nodes and tables, or [`NOWHERE`]: all fit.
     pub fn new(number: u16, place: usize) -> Self {
         debug_assert!(place <= NOWHERE);
         Refusal {
             number,
             place: place as u16,
         }
+    }
+
+    /// The reader's: 1 to 10, and 17, which counts among them.
+    pub fn is_the_readers(self) -> bool {
+        self.number <= RING || self.number == UNREAD_TABLE
     }
 }
 

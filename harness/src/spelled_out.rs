@@ -43,17 +43,18 @@ impl Services {
             runs.push((answer, state.clone(), outputs));
         }
 
-        let tables_end = format::tables_end(&checked.netlist);
         let rewritten = self.in_both_modes(&file).map(|new| {
             new.map(|new| {
-                let kept = new[..tables_end] == file[..tables_end];
-                assert!(kept, "other tables: {}", hex(&file));
-                new[tables_end..].to_vec()
+                let netlist = format::read(&new).expect("it passes the reader");
+                let mut tables = checked.netlist.tables.iter();
+                let as_they_came = netlist.tables.iter().all(|t| tables.any(|old| old == t));
+                assert!(as_they_came, "other tables: {}", hex(&file));
+                new[format::tables_end(&netlist)..].to_vec()
             })
         });
         let mut preview = previewed(self.preview, &file);
         if let Ok(previewed) = &mut preview {
-            previewed.size.length -= tables_end;
+            previewed.size.length -= format::tables_end(&checked.netlist);
         }
         Shown {
             runs,

@@ -37,7 +37,7 @@ impl Vector {
     /// What checks 1 to 10 answer.
     pub fn check_answer(&self) -> Answer {
         match self.rewritten {
-            Err(refusal) if refusal.number <= 10 => Err(refusal),
+            Err(refusal) if refusal.is_the_readers() => Err(refusal),
             _ => Ok(self.file.len()),
         }
     }
@@ -47,7 +47,7 @@ impl Vector {
 pub fn file() -> PathBuf {
     match std::env::var_os("PUNQELIS_VECTORS") {
         Some(file) => PathBuf::from(file),
-        None => Path::new(env!("CARGO_MANIFEST_DIR")).join("../vectors/t05.txt"),
+        None => Path::new(env!("CARGO_MANIFEST_DIR")).join("../vectors/t06.txt"),
     }
 }
 

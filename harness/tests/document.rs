@@ -243,7 +243,7 @@ fn ring_of_two_roms_and_one_register() {
 
 #[test]
 fn output_one_byte_short() {
-    let mut design = one_bit();
+    let mut design = Design::default();
     let port = design.input(1);
     let register = design.register(port, 0);
     design.output(register);

@@ -12,7 +12,9 @@ use harness::leads::{chains, timing, Timing};
 use harness::netlist::{Kind, Netlist, Node, MAX_NODES};
 use harness::previewed::{previewed, Previewed};
 use harness::random::{self, Entry, Random};
-use harness::refusal::{CLOSED_DEBT, GROWN, LOOP, PORT_DEBT, RING, SHORT, TABLE, TAG};
+use harness::refusal::{
+    CLOSED_DEBT, GROWN, LOOP, NUMBERS, PORT_DEBT, RING, SHORT, TABLE, TAG, UNREAD_TABLE,
+};
 use harness::rewrite::{retimed, Retimed};
 use harness::stack::stack_use;
 use harness::{workloads, Size, OWN};
@@ -101,14 +103,14 @@ fn random_tables_are_varied() {
 #[test]
 fn changed_tables_get_their_answers() {
     let mut random = Random::new(8);
-    let mut answers = [0; 17];
+    let mut answers = [0; NUMBERS];
     for _ in 0..6_000 {
         let (file, answer) = random::changed_table(&mut random);
         assert_eq!(harness::check(&file), answer, "{}", harness::hex(&file));
         answers[answer.err().map_or(0, |r| usize::from(r.number))] += 1;
     }
     println!("6000 changed tables by answer: {answers:?}");
-    for number in [0, TAG, TABLE] {
+    for number in [0, TAG, TABLE, UNREAD_TABLE] {
         assert!(answers[usize::from(number)] > 500, "{number}");
     }
 }
@@ -116,7 +118,7 @@ fn changed_tables_get_their_answers() {
 #[test]
 fn damage_reaches_the_checks() {
     let mut random = Random::new(2);
-    let mut refused = [0; 17];
+    let mut refused = [0; NUMBERS];
     for _ in 0..6_000 {
         let design = random::netlist(&mut random);
         let file = match random.chance(50) {
@@ -230,7 +232,7 @@ fn previews_agree_with_rewriting() {
     let mut random = Random::new(6);
     let mut out = vec![0; MAX_FILE];
     let [mut accepted, mut early] = [0; 2];
-    let mut refused = [0; 17];
+    let mut refused = [0; NUMBERS];
     for _ in 0..3_000 {
         let design = match random.below(5) {
             0 | 1 => random::netlist(&mut random),

@@ -5,7 +5,7 @@ use mathlib.Core.Bool.{_&&_}
 use mathlib.Core.List.{List, [], _∷_, _++_, map}
 use Prim.Native.Nat.{ℕ, zero, suc}
 use Rattle.netlist.specs.Net.{Net}
-use Rattle.netlist.specs.File.{Decoded, good, decode}
+use Rattle.netlist.specs.File.{Decoded, ReadAs}
 use Rattle.behaviour.specs.Run.{resetState}
 use Rattle.behaviour.specs.Alike.{Alike, runs-alike}
 use Rattle.behaviour.specs.Service.{bytesOf, fittingBytes, roomFor, Entry, Shown, runsFile}
@@ -13,20 +13,20 @@ use Rattle.behaviour.specs.Lending.{takesEntry, lent}
 use Rattle.behaviour.specs.Entries.{entryFitsOf, entryFits, chosen}
 use Rattle.behaviour.specs.ServiceLaws.{shownAll, runs-words}
 
-pub files-alike : (s s′ : List ℕ) (N M : Net) → Alike N M → decode s ≡ good N → decode s′ ≡ good M
+pub files-alike : (s s′ : List ℕ) (N M : Net) → Alike N M → ReadAs s N → ReadAs s′ M
     → (es : List Entry) → runsFile s (bytesOf (resetState N)) es ≡ runsFile s′ (bytesOf (resetState M)) es
-files-alike s s′ N M ok d d′ es =
-    runs-words s N (ok .old) d (resetState N) es
+files-alike s s′ N M ok file file′ es =
+    runs-words s N (ok .old) file (resetState N) es
     ∙ ap (shownAll es) (sym (runs-alike N M ok (map lent es)))
-    ∙ sym (runs-words s′ M (ok .new) d′ (resetState M) es)
+    ∙ sym (runs-words s′ M (ok .new) file′ (resetState M) es)
 
 -- 15's condition is one for both
-pub fits-alike : (s s′ : List ℕ) (N M : Net) → Alike N M → decode s ≡ good N → decode s′ ≡ good M → (e : Entry) → entryFits s′ e ≡ entryFits s e
+pub fits-alike : (s s′ : List ℕ) (N M : Net) → Alike N M → ReadAs s N → ReadAs s′ M → (e : Entry) → entryFits s′ e ≡ entryFits s e
 unfolding entryFits takesEntry
-fits-alike s s′ N M ok d d′ e =
-    ap (λ (x : Decoded). entryFitsOf x e) d′
+fits-alike s s′ N M ok file file′ e =
+    ap (λ (x : Decoded). entryFitsOf x e) (file′ .reads)
     ∙ ap₂ (λ (is os : List ℕ). fittingBytes is (e .inputs) && roomFor os (e .outputs)) (ok .inputs) (ok .outputs)
-    ∙ sym (ap (λ (x : Decoded). entryFitsOf x e) d)
+    ∙ sym (ap (λ (x : Decoded). entryFitsOf x e) (file .reads))
 
 -- what holds of every list holds of one that is chosen on the way
 module _ (s s′ st st′ : List ℕ) (alike : (es : List Entry) → runsFile s st es ≡ runsFile s′ st′ es) (choose : List Shown → Entry) where

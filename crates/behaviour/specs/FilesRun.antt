@@ -7,7 +7,7 @@ use Prim.Native.Nat.{ℕ}
 use lib.ListN.{length}
 use Rattle.netlist.specs.declared.Answer.the-variants.{Accepted}
 use Rattle.netlist.specs.Net.{Net}
-use Rattle.netlist.specs.File.{good, decode}
+use Rattle.netlist.specs.File.{ReadAs}
 use Rattle.behaviour.specs.Run.{resetState}
 use Rattle.behaviour.specs.Alike.{Alike}
 use Rattle.behaviour.specs.Service.{bytesOf, Filled, resetFile, Entry, runsFile}
@@ -16,7 +16,7 @@ use Rattle.behaviour.specs.Only15.{reset-fitted, reset-accepted, each-sh
 use Rattle.behaviour.specs.NoClock.{no-clock}
 use Rattle.behaviour.specs.FilesAlike.{files-alike, fits-alike}
 
-pub files-run : (s s′ : List ℕ) (N M : Net) → Alike N M → decode s ≡ good N → decode s′ ≡ good M
+pub files-run : (s s′ : List ℕ) (N M : Net) → Alike N M → ReadAs s N → ReadAs s′ M
     → (st st′ : List ℕ) → length st ≡ stateBytes s → length st′ ≡ stateBytes s′
     → (resetFile s st .answer ≡ Accepted (length st))
     × (resetFile s′ st′ .answer ≡ Accepted (length st′))
@@ -28,19 +28,19 @@ pub files-run : (s s′ : List ℕ) (N M : Net) → Alike N M → decode s ≡ g
     × (entryFits s x ≡ false
     → (stateAfter s (resetFile s st .state) (es ++ x ∷ []) ≡ stateAfter s (resetFile s st .state) es)
     × (stateAfter s′ (resetFile s′ st′ .state) (es ++ x ∷ []) ≡ stateAfter s′ (resetFile s′ st′ .state) es))))
-files-run s s′ N M ok reads reads′ st st′ h h′ =
-    let r = reset-accepted s N (ok .old) reads st h in
-    let r′ = reset-accepted s′ M (ok .new) reads′ st′ h′ in (
+files-run s s′ N M ok file file′ st st′ h h′ =
+    let r = reset-accepted s N (ok .old) file st h in
+    let r′ = reset-accepted s′ M (ok .new) file′ st′ h′ in (
       ap (λ (x : Filled). x .answer) r,
       ap (λ (x : Filled). x .answer) r′,
       λ es. (
-        rw r (rw r′ (files-alike s s′ N M ok reads reads′ es)),
-        rw r (each-shows s N (ok .old) reads (bytesOf (resetState N)) (reset-fitted N (ok .old)) es),
+        rw r (rw r′ (files-alike s s′ N M ok file file′ es)),
+        rw r (each-shows s N (ok .old) file (bytesOf (resetState N)) (reset-fitted N (ok .old)) es),
         λ x. (
-          fits-alike s s′ N M ok reads reads′ x,
+          fits-alike s s′ N M ok file file′ x,
           λ f. (
-            no-clock s N (ok .old) reads (resetFile s st .state) es x f,
-            no-clock s′ M (ok .new) reads′ (resetFile s′ st′ .state) es x (fits-alike s s′ N M ok reads reads′ x ∙ f),
+            no-clock s N file (resetFile s st .state) es x f,
+            no-clock s′ M file′ (resetFile s′ st′ .state) es x (fits-alike s s′ N M ok file file′ x ∙ f),
           ),
         ),
       ),

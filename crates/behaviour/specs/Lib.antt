@@ -12,6 +12,7 @@ pub mod ClockFits
 pub mod States
 pub mod History
 pub mod Alike
+pub mod TrimmedAlike
 pub mod Same
 pub mod Respelled
 pub mod WordBytes

@@ -4,8 +4,7 @@ use mathlib.Core.Bool.{false, _&&_}
 use mathlib.Core.List.{List, [], _∷_, _++_}
 use Prim.Native.Nat.{ℕ}
 use Rattle.netlist.specs.Net.{Net}
-use Rattle.netlist.specs.Checks.{WellFormed}
-use Rattle.netlist.specs.File.{Decoded, good, decode}
+use Rattle.netlist.specs.File.{Decoded, ReadAs}
 use Rattle.behaviour.specs.Runs.{inputWidths, outputWidths}
 use Rattle.behaviour.specs.Service.{fittingBytes, roomFor, Ran, runNet, runFile, Entry}
 use Rattle.behaviour.specs.Lending.{takesEntry}
@@ -17,12 +16,12 @@ unfolding stateAfter
 last-run s [] st e = refl
 last-run s (d ∷ es) st e = last-run s es (runFile s st (d .inputs) (d .outputs) .state) e
 
-module _ (s : List ℕ) (N : Net) (wf : WellFormed N) (reads : decode s ≡ good N) where
+module _ (s : List ℕ) (N : Net) (file : ReadAs s N) where
   stays : (st : List ℕ) (e : Entry) → entryFits s e ≡ false → runFile s st (e .inputs) (e .outputs) .state ≡ st
   unfolding entryFits runNet takesEntry
   stays st e f =
-      let t : (fittingBytes (inputWidths N) (e .inputs) && roomFor (outputWidths N) (e .outputs)) ≡ false = sym (ap (λ (d : Decoded). entryFitsOf d e) reads) ∙ f in
-      ap (λ (r : Ran). r .state) (run-file s N wf reads st (e .inputs) (e .outputs)) ∙ rw t refl
+      let t : (fittingBytes (inputWidths N) (e .inputs) && roomFor (outputWidths N) (e .outputs)) ≡ false = sym (ap (λ (d : Decoded). entryFitsOf d e) (file .reads)) ∙ f in
+      ap (λ (r : Ran). r .state) (run-file s N file st (e .inputs) (e .outputs)) ∙ rw t refl
 
   pub no-clock : (st : List ℕ) (es : List Entry) (e : Entry) → entryFits s e ≡ false → stateAfter s st (es ++ e ∷ []) ≡ stateAfter s st es
   no-clock st es e f = last-run s es st e ∙ stays (stateAfter s st es) e f

@@ -11,7 +11,7 @@ use Rattle.lists.specs.BelowLaws.{and-right, eqb-true}
 use Rattle.lists.specs.ListsLaws.{length-select}
 use Rattle.netlist.specs.Net.{Net, size, elementAt, isOutput, outputsOf}
 use Rattle.netlist.specs.Checks.{WellFormed}
-use Rattle.netlist.specs.File.{good, decode}
+use Rattle.netlist.specs.File.{ReadAs}
 use Rattle.netlist.specs.declared.Answer.the-variants.{Accepted, Refused}
 use Rattle.behaviour.specs.Run.{resetState, runOutputs}
 use Rattle.behaviour.specs.Runs.{Lent, inputWidths, outputWidths, stateWidths, fitting, takes, refusal, outcome, after}
@@ -83,13 +83,13 @@ module _ (N : Net) (wf : WellFormed N) where
 
 -- ---- a list of runs
 
-module _ (s : List ℕ) (N : Net) (wf : WellFormed N) (reads : decode s ≡ good N) where
+module _ (s : List ℕ) (N : Net) (wf : WellFormed N) (file : ReadAs s N) where
   one-shows : (st : List ℕ) → Fitted N st → (e : Entry) → Shows (entryFits s e) e (record { answer = runFile s st (e .inputs) (e .outputs) .answer; outputs = runFile s st (e .inputs) (e .outputs) .outputs })
   unfolding entryFits
-  one-shows st f e = rw reads (rw (run-file s N wf reads st (e .inputs) (e .outputs)) (run-shows N wf st f e))
+  one-shows st f e = rw (file .reads) (rw (run-file s N file st (e .inputs) (e .outputs)) (run-shows N wf st f e))
 
   next : (st : List ℕ) → Fitted N st → (e : Entry) → Fitted N (runFile s st (e .inputs) (e .outputs) .state)
-  next st f e = rw (run-file s N wf reads st (e .inputs) (e .outputs)) (next-fitted N wf st f e)
+  next st f e = rw (run-file s N file st (e .inputs) (e .outputs)) (next-fitted N wf st f e)
 
   -- THE THEOREM: only 15, and just where its condition holds
   pub each-shows : (st : List ℕ) → Fitted N st → (es : List Entry) → EachShows (entryFits s) es (runsFile s st es)
@@ -105,14 +105,14 @@ module _ (s : List ℕ) (N : Net) (wf : WellFormed N) (reads : decode s ≡ good
   -- so 16 never comes up
   pub states-fit : (st : List ℕ) → Fitted N st → (es : List Entry) → stateFits s (stateAfter s st es) ≡ true
   unfolding stateFits
-  states-fit st f es = rw reads (fitted-bytes N wf (stateAfter s st es) (after-runs st f es))
+  states-fit st f es = rw (file .reads) (fitted-bytes N wf (stateAfter s st es) (after-runs st f es))
 
   -- the reset service takes a state of the right length
   pub reset-accepted : (st : List ℕ) → length st ≡ stateBytes s → resetFile s st ≡ record { answer = Accepted (length st); state = bytesOf (resetState N) }
   unfolding stateBytes
-  reset-accepted st h = reset-file s N wf reads st ∙ reset-accepts N wf st (rw reads at h)
+  reset-accepted st h = reset-file s N file st ∙ reset-accepts N wf st (rw (file .reads) at h)
 
   -- and no other (16)
   pub reset-refused : (st : List ℕ) → (length st ≡ stateBytes s → ⊥) → resetFile s st ≡ record { answer = Refused 16 65535; state = st }
   unfolding stateBytes resetNet
-  reset-refused st h = reset-file s N wf reads st ∙ rw (ne-eqb (length st) (2 * length (stateWidths N)) (rw reads at h))
+  reset-refused st h = reset-file s N file st ∙ rw (ne-eqb (length st) (2 * length (stateWidths N)) (rw (file .reads) at h))

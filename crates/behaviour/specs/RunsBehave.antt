@@ -15,7 +15,7 @@ use Rattle.lists.specs.BelowLaws.{true-or-false, and-left, and-right}
 use Rattle.lists.specs.ListsLaws.{concatMap-cong}
 use Rattle.netlist.specs.Net.{Net, size, elementAt, isOutput, Behaves, outputsOf}
 use Rattle.netlist.specs.Checks.{WellFormed}
-use Rattle.netlist.specs.File.{good, decode, answer}
+use Rattle.netlist.specs.File.{ReadAs, answer}
 use Rattle.netlist.specs.declared.Verdict.the-variants.{Fine, Refuses}
 use Rattle.behaviour.specs.Run.{runOutputs, runWord, stateAt}
 use Rattle.behaviour.specs.Runs.{inputWidths, outputWidths, stateWidths, fitting}
@@ -67,7 +67,7 @@ inputs-fit N [] t = zeros-fit N t
 inputs-fit N (e ∷ es) t =
     ⊎-elim (λ q. rw q (first-or-later N (wordsIn (e .inputs)) (taken N es) (entry-fits N e q) (inputs-fit N es) t)) (λ q. rw q (inputs-fit N es t)) (true-or-false (takesEntry N e))
 
-module _ (s : List ℕ) (N : Net) (wf : WellFormed N) (reads : decode s ≡ good N) where
+module _ (s : List ℕ) (N : Net) (wf : WellFormed N) (file : ReadAs s N) where
   -- ---- one run, at clock t of a run from reset with the input words S
 
   module _ (S : ℕ → List ℕ) (fit : InputsFit N S) where
@@ -82,9 +82,9 @@ module _ (s : List ℕ) (N : Net) (wf : WellFormed N) (reads : decode s ≡ good
         → runFile s (bytesOf (stateAt N S t)) (e .inputs) (e .outputs) ≡ leaves b t e
     unfolding runNet takesEntry stateAt runOutputs runWord
     one-run e t true q w =
-        run-file s N wf reads (bytesOf (stateAt N S t)) (e .inputs) (e .outputs)
+        run-file s N file (bytesOf (stateAt N S t)) (e .inputs) (e .outputs)
         ∙ rw (q, fitting-bytes (stateWidths N) (stateAt N S t), state-fits N wf S fit t, words-of-bytes (stateAt N S t), add-one t, ← (w refl)) refl
-    one-run e t false q w = run-file s N wf reads (bytesOf (stateAt N S t)) (e .inputs) (e .outputs) ∙ rw (q, add-zero t) refl
+    one-run e t false q w = run-file s N file (bytesOf (stateAt N S t)) (e .inputs) (e .outputs) ∙ rw (q, add-zero t) refl
 
     -- ---- a list of runs
 
@@ -121,7 +121,7 @@ module _ (s : List ℕ) (N : Net) (wf : WellFormed N) (reads : decode s ≡ good
   unfolding stateAt
   runs-behave st h es B hB =
       let S : ℕ → List ℕ = inputsAt N es in
-      ap (λ (x : Filled). runsFile s (x .state) es) (reset-accepted s N wf reads st h)
+      ap (λ (x : Filled). runsFile s (x .state) es) (reset-accepted s N wf file st h)
       ∙ runs-on S (inputs-fit N es) es 0 (λ i. let z : 0 + i ≡ i = omega arith in ap S z)
       ∙ shown-cong (runWord N S) B
       (one-behaviour N (wf .sourced) (settles N wf) (λ t port. getD (S t) port 0) (runWord N S) B (the-run-behaves N (wf .sourced) (settles N wf) S) hB) 0 es

@@ -7,10 +7,9 @@ use Prim.Native.Nat.{ℕ}
 use lib.ListN.{length}
 use Rattle.lists.specs.BelowLaws.{true-or-false}
 use Rattle.netlist.specs.Net.{Net}
-use Rattle.netlist.specs.VerdictLaws.{fine-reader}
 use Rattle.netlist.specs.Checks.{WellFormed}
-use Rattle.netlist.specs.Verdict.{onward, readerVerdict}
-use Rattle.netlist.specs.File.{Decoded, good, decode, decodedNet, judged, fileVerdict, answer, given}
+use Rattle.netlist.specs.Verdict.{onward}
+use Rattle.netlist.specs.File.{Decoded, ReadAs, decodedNet, judged, fileVerdict, answer, given}
 use Rattle.netlist.specs.declared.Verdict.{Verdict}
 use Rattle.netlist.specs.declared.Verdict.the-variants.{Fine, Refuses}
 use Rattle.behaviour.specs.Run.{runOutputs, runState}
@@ -22,25 +21,18 @@ use Rattle.behaviour.specs.Lending.{takesEntry, lent, takes-lent, words-
 
 -- ---- a file that the reader passes, and its netlist
 
-module _ (s : List ℕ) (N : Net) (fine : readerVerdict N ≡ Fine) (reads : decode s ≡ good N) where
-  pub reset-passed : (st : List ℕ) → resetFile s st ≡ resetNet N st
-  unfolding resetFile resetNet fileVerdict
-  reset-passed st =
-      ap (λ (d : Decoded). resetBy (onward (judged d) (resetVerdict (decodedNet d) st)) (decodedNet d) st) reads
-      ∙ ap (λ (v : Verdict). resetBy (onward v (resetVerdict N st)) N st) fine
-
-  pub run-passed : (st ins outs : List ℕ) → runFile s st ins outs ≡ runNet N st ins outs
-  unfolding runFile runNet fileVerdict
-  run-passed st ins outs =
-      ap (λ (d : Decoded). runBy (onward (judged d) (runVerdict (decodedNet d) st ins outs)) (decodedNet d) st ins outs) reads
-      ∙ ap (λ (v : Verdict). runBy (onward v (runVerdict N st ins outs)) N st ins outs) fine
-
-module _ (s : List ℕ) (N : Net) (wf : WellFormed N) (reads : decode s ≡ good N) where
+module _ (s : List ℕ) (N : Net) (file : ReadAs s N) where
   pub reset-file : (st : List ℕ) → resetFile s st ≡ resetNet N st
-  reset-file = reset-passed s N (fine-reader N wf) reads
+  unfolding resetFile resetNet fileVerdict
+  reset-file st =
+      ap (λ (d : Decoded). resetBy (onward (judged d) (resetVerdict (decodedNet d) st)) (decodedNet d) st) (file .reads)
+      ∙ ap (λ (v : Verdict). resetBy (onward v (resetVerdict N st)) N st) (file .fine)
 
   pub run-file : (st ins outs : List ℕ) → runFile s st ins outs ≡ runNet N st ins outs
-  run-file = run-passed s N (fine-reader N wf) reads
+  unfolding runFile runNet fileVerdict
+  run-file st ins outs =
+      ap (λ (d : Decoded). runBy (onward (judged d) (runVerdict (decodedNet d) st ins outs)) (decodedNet d) st ins outs) (file .reads)
+      ∙ ap (λ (v : Verdict). runBy (onward v (runVerdict N st ins outs)) N st ins outs) (file .fine)
 
 -- ---- one run
 
@@ -86,13 +78,13 @@ shownAll [] l = []
 shownAll (e ∷ es) [] = []
 shownAll (e ∷ es) (a ∷ l) = shownAs e a ∷ shownAll es l
 
-module _ (s : List ℕ) (N : Net) (wf : WellFormed N) (reads : decode s ≡ good N) where
+module _ (s : List ℕ) (N : Net) (wf : WellFormed N) (file : ReadAs s N) where
   abbrev shown : Ran → Shown
   shown r = record { answer = r .answer; outputs = r .outputs }
 
   ran : (state : List ℕ) (e : Entry)
       → runFile s (bytesOf state) (e .inputs) (e .outputs) ≡ ranAs (shownAs e (outcome (refusal N state (lent e)) N state (lent e))) (after (refusal N state (lent e)) N state (lent e))
-  ran state e = run-file s N wf reads (bytesOf state) (e .inputs) (e .outputs) ∙ run-words N wf state e
+  ran state e = run-file s N file (bytesOf state) (e .inputs) (e .outputs) ∙ run-words N wf state e
 
   -- THE THEOREM: what the file's runs show is decided by the runs of its netlist on words
   pub runs-words : (state : List ℕ) (es : List Entry) → runsFile s (bytesOf state) es ≡ shownAll es (runs.runs N state (map lent es))

@@ -3,8 +3,8 @@ use mathlib.Core.Path.{_≡_}
 use mathlib.Core.List.{List, [], _∷_}
 use Prim.Native.Nat.{ℕ}
 use Rattle.netlist.specs.Net.{inClock, Net, size}
-use Rattle.netlist.specs.Verdict.{inLoop, inRing, Stage, atLowest, readerVerdict}
-use Rattle.netlist.specs.File.{good, decode, fileVerdict}
+use Rattle.netlist.specs.Verdict.{inLoop, inRing, Stage, atLowest}
+use Rattle.netlist.specs.File.{fileVerdict, ReadAs}
 use Rattle.netlist.specs.declared.Verdict.{Verdict}
 use Rattle.netlist.specs.declared.Verdict.the-variants.{Fine, Refuses}
 use Rattle.circuit.specs.Circuit.{orderOf, netOf, Circuit}
@@ -14,10 +14,9 @@ use Rattle.circuit.specs.Order.{Complete}
 abbrev pub fromNine : Net → List Stage
 fromNine N = atLowest 9 (size N) (inLoop N) ∷ atLowest 10 (size N) (inRing N) ∷ []
 
--- l is the circuit of the file's netlist, 6 to 10 are passed, and the order has each node after what it reads within the clock
+-- l is the circuit of the file's netlist, which the reader takes, and the order has each node after what it reads within the clock
 pub record Open (s l : List ℕ) : Type 0 where
-  pub decodes : decode s ≡ good (netOf s l)
-  pub fine : readerVerdict (netOf s l) ≡ Fine
+  pub file : ReadAs s (netOf s l)
   pub circuit : Circuit s l
   pub ordered : Complete inClock (netOf s l) (orderOf l)
 

@@ -46,7 +46,7 @@ module _ {s l : List ℕ} where
   opened-fine o e = taken-with (subst (Opened s l) e o)
 
   pub passed : Open s l → fileVerdict s ≡ Fine
-  passed o = judged-by s (o .decodes) ∙ o .fine
+  passed o = judged-by s (o .file .reads) ∙ o .file .fine
 
   pub check-accepted : Open s l → Accepted (length s) ≡ checkAnswer s
   unfolding checkAnswer
@@ -54,13 +54,13 @@ module _ {s l : List ℕ} where
 
   -- THE NETLIST of an opened file is well-formed, and all three sources of its nodes are nodes, also those that do not count
   pub open-formed : Bytes s → Open s l → WellFormed (netOf s l)
-  open-formed b o = reader-fine (netOf s l) (decode-within s (netOf s l) b (o .decodes) .fields) (o .fine)
+  open-formed b o = reader-fine (netOf s l) (decode-within s (netOf s l) b (o .file .reads) .fields) (o .file .fine)
 
   pub open-inside : Bytes s → Open s l → (v p : ℕ) → v < size (netOf s l) → p < 3 → source (netOf s l) v p < size (netOf s l)
   unfolding Sourced source elementAt
   open-inside b o v p h t =
       let N = netOf s l in
-      ⊎-elim (open-formed b o .sourced v p h) (λ k. omega (arith, decode-within s N b (o .decodes) .records v h .unread p k)) (lt-or-le p (operands (elementAt N v)))
+      ⊎-elim (open-formed b o .sourced v p h) (λ k. omega (arith, decode-within s N b (o .file .reads) .records v h .unread p k)) (lt-or-le p (operands (elementAt N v)))
 
 pub check-refused : (s : List ℕ) {k p : ℕ} → fileVerdict s ≡ Refuses k p → Refused k p ≡ checkAnswer s
 unfolding checkAnswer
@@ -70,9 +70,9 @@ check-refused s e = sym (ap (λ (v : Verdict). answer v (length s)) e)
 pub opened-by : {s l : List ℕ} {N : Net} {r : Verdict} → decode s ≡ good N → netOf s l ≡ N → Circuit s l → r ≡ readerVerdict N → (r ≡ Fine → Complete inClock N (orderOf l)) → Opened s l r
 opened-by {s} {l} {r = r} d n k e f = go r (e ∙ ap readerVerdict (sym n)) (λ q. subst (λ (M : Net). Complete inClock M (orderOf l)) (sym n) (f q))
   where
-    decodes : decode s ≡ good (netOf s l)
-    decodes = d ∙ ap good (sym n)
+    reads : decode s ≡ good (netOf s l)
+    reads = d ∙ ap good (sym n)
 
     go : (w : Verdict) → w ≡ readerVerdict (netOf s l) → (w ≡ Fine → Complete inClock (netOf s l) (orderOf l)) → Opened s l w
-    go Fine e f = taken (record { decodes = decodes; fine = sym e; circuit = k; ordered = f refl })
-    go (Refuses a b) e f = turned-away (judged-by s decodes ∙ sym e)
+    go Fine e f = taken (record { file = record { reads = reads; fine = sym e }; circuit = k; ordered = f refl })
+    go (Refuses a b) e f = turned-away (judged-by s reads ∙ sym e)

@@ -45,7 +45,7 @@ module _ {s l : List ℕ} (o : Open s l) where
   N = netOf s l
 
   the-net : decodedNet (decode s) ≡ N
-  the-net = ap decodedNet (o .decodes)
+  the-net = ap decodedNet (o .file .reads)
 
   node-of : (v : ℕ) {w : Verdict} → numbered v (size N) ≡ w → nodeBy w N v ≡ nodeOfFile s v
   unfolding nodeOfFile

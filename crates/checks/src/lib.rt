@@ -1,4 +1,4 @@
-// The reader's layer as run and rewriter see it: checks 1 to 10, a node by its number, a table's stored words.
+// The reader's layer as run and rewriter see it: checks 1 to 10 and 17, a node by its number, a table's stored words.
 use circuit::WORDS;
 use circuit::node_count;
 use circuit::table_count;
@@ -14,6 +14,7 @@ use opening::rows::node_of;
 use reader::table_part;
 use rules::readers::lowest_unread;
 use rules::sources::lowest_bad_source;
+use rules::tables::lowest_unread_table;
 use rules::widths::lowest_bad_width;
 ghost use mathlib.Core.Path.{_≡_};
 ghost use Prim.Native.Nat.{_≤_};
@@ -65,7 +66,7 @@ fn cycles_verdict(file: &[u8], net: &mut [u16]) -> Verdict
     Verdict::Fine
 }
 
-// Checks 6 to 10.
+// Checks 6 to 10, and 17 among them.
 fn net_verdict(file: &[u8], net: &mut [u16]) -> Verdict
     ghost { Net }
     requires { λ N. ⌜ netOf (now file) (now net) ≡ N ⌝ ∗ ⌜ Circuit (now file) (now net) ⌝ }
@@ -86,10 +87,14 @@ fn net_verdict(file: &[u8], net: &mut [u16]) -> Verdict
     if unread < n {
         return Verdict::Refuses(8, unread as u16);
     }
+    let table = lowest_unread_table(file, net);
+    if table < table_count(file, net) {
+        return Verdict::Refuses(17, table as u16);
+    }
     cycles_verdict(file, net)
 }
 
-// Checks 1 to 10, with the file's circuit left in the work area for whoever goes on.
+// Checks 1 to 10, and 17 among them, with the file's circuit left in the work area for whoever goes on.
 pub fn open_file(file: &[u8], net: &mut [u16]) -> Verdict
     requires { ⌜ circuitWords ≤ length (now net) ⌝ }
     ensures { λ r. ⌜ Opened (now (file .entry)) (now (net .exit)) r ⌝ }

@@ -1,6 +1,7 @@
 -- An element by one number: its kind in the file, where each operation of a gate has a number of its own. The numbers 5 to 7 are kinds that have none. Assumes nothing.
-use mathlib.Core.Path.{_≡_, refl, sym}
+use mathlib.Core.Path.{_≡_, refl, sym, ap, _∙_}
 use mathlib.Core.Logic.{_⊎_, inl, inr, ⊎-elim}
+use mathlib.Core.Bool.{Bool, true, false, false≢true}
 use mathlib.Core.List.{[], _∷_}
 use Prim.Native.Nat.{ℕ, _+_, _-_, _≤_, _<_}
 use native.Mathlib.Omega.{arith}
@@ -14,7 +15,8 @@ use Rattle.netlist.specs.declared.Element.{Element}
 use Rattle.netlist.specs.declared.Element.the-variants.{Input, Output, Register, Async, Clocked, Gate}
 use Rattle.netlist.specs.NodeField.{plainOp, opNumber}
 use Rattle.netlist.specs.NodeLaws.{plain-number}
-use Rattle.netlist.specs.Net.{rom, isInput, isOutput, isRegister, isAsync, isClocked}
+use Rattle.netlist.specs.Net.{rom, operands, isInput, isOutput, isRegister, isAsync, isClocked, isMemory, tableOf}
+use Rattle.netlist.specs.Trim.{overTable}
 
 abbrev pub codeOf : Element → ℕ
 codeOf Input = 0
@@ -98,6 +100,15 @@ tableOr x (Async m) = m .table
 tableOr x (Clocked m r) = m .table
 tableOr x (Gate o) = x
 
+-- a memory's table
+pub rom-table : (e : Element) → isMemory e ≡ true → {k : ℕ} → k ≡ tableOr k e → k ≡ tableOf e
+rom-table Input m q = absurd (false≢true m)
+rom-table Output m q = absurd (false≢true m)
+rom-table (Register r) m q = absurd (false≢true m)
+rom-table (Async x) m q = q
+rom-table (Clocked x r) m q = q
+rom-table (Gate o) m q = absurd (false≢true m)
+
 -- ---- it has that code, that number and that table
 
 op-code : (k x : ℕ) → k < 12 → opNumber (opBy k x) ≡ k
@@ -156,6 +167,35 @@ element-named x t (Gate Less) = refl
 element-named x t (Gate Choose) = refl
 element-named x t (Gate (Part b)) = refl
 element-named x t (Gate Join) = refl
+
+-- ---- another table number gives the element over that table
+
+pub over-by : (c x t k : ℕ) → elementBy c x k ≡ overTable k (elementBy c x t)
+unfolding elementBy pick
+over-by c x t k = go (eqb c 0) (eqb c 1) (eqb c 2) (eqb c 3) (eqb c 4) (opBy (c - 8) x)
+  where
+    by : ℕ → Bool → Bool → Bool → Bool → Bool → Op → Element
+    by m b₀ b₁ b₂ b₃ b₄ o = pick b₀ Input (pick b₁ Output (pick b₂ (Register x) (pick b₃ (Async (rom m)) (pick b₄ (Clocked (rom m) x) (Gate o)))))
+
+    go : (b₀ b₁ b₂ b₃ b₄ : Bool) (o : Op) → by k b₀ b₁ b₂ b₃ b₄ o ≡ overTable k (by t b₀ b₁ b₂ b₃ b₄ o)
+    go true b₁ b₂ b₃ b₄ o = refl
+    go false true b₂ b₃ b₄ o = refl
+    go false false true b₃ b₄ o = refl
+    go false false false true b₄ o = refl
+    go false false false false true o = refl
+    go false false false false false o = refl
+
+over-operands : (k : ℕ) (e : Element) → operands (overTable k e) ≡ operands e
+over-operands k Input = refl
+over-operands k Output = refl
+over-operands k (Register r) = refl
+over-operands k (Async m) = refl
+over-operands k (Clocked m r) = refl
+over-operands k (Gate o) = refl
+
+-- which has as many operands
+pub operands-by : (c x t k : ℕ) → operands (elementBy c x k) ≡ operands (elementBy c x t)
+operands-by c x t k = ap operands (over-by c x t k) ∙ over-operands k (elementBy c x t)
 
 -- ---- what a code tells of its element
 

@@ -1,4 +1,5 @@
 // The opened netlist in one slice of words: what it tells of a node and of a table, and how a node is put. Every pass goes by it.
+pub mod renumber;
 mod tables;
 
 use tables::word_in;

@@ -1,10 +1,11 @@
 -- A part of a work area that stands for a list of its own: so many words from a place on. Assumes nothing.
-use mathlib.Core.Path.{_≡_, refl, sym, ap, _∙_}
-use mathlib.Core.List.{List, _∷_}
+use mathlib.Core.Path.{_≡_, refl, sym, ap, ap₂, _∙_}
+use mathlib.Core.List.{List, [], _∷_, _++_}
 use Prim.Native.Nat.{ℕ, zero, suc, _+_, _-_, _≤_, _<_}
+use native.Mathlib.Numerals.{add-one}
 use native.Mathlib.Omega.{arith}
 use lib.ListN.{length, getD, set, take, drop, replicate, length-drop, length-set}
-use lib.Seq.{length-take-le, take-all, getD-take, getD-drop, take-set-le, take-set-lt, drop-set-lt, drop-set-add}
+use lib.Seq.{length-take-le, take-all, getD-take, getD-drop, take-set-le, take-set-lt, take-suc-set, drop-set-lt, drop-set-add}
 
 abbrev pub section : ℕ → ℕ → List ℕ → List ℕ
 section at n l = take n (drop at l)
@@ -34,6 +35,10 @@ module _ (at n : ℕ) (l : List ℕ) where
   -- a word of it is put
   pub section-put : (i x : ℕ) → i < n → section at n (set l (at + i) x) ≡ set (section at n l) i x
   section-put i x h = ap (take n) (drop-set-add at l i x) ∙ take-set-lt n (drop at l) i x h
+
+  -- or the next word
+  pub section-more : (x : ℕ) → at + n < length l → section at (n + 1) (set l (at + n) x) ≡ section at n l ++ (x ∷ [])
+  section-more x h = ap₂ take (add-one n) (drop-set-add at l n x) ∙ take-suc-set (drop at l) n x (omega (arith, length-drop at l))
 
   -- a word before it, or one after it
   pub section-before : (j x : ℕ) → j < at → section at n (set l j x) ≡ section at n l

@@ -1,6 +1,6 @@
--- What the checks 4 to 10 leave of a netlist. Assumes nothing.
+-- What the checks 4 to 10 leave of a netlist, and 17. Assumes nothing.
 use mathlib.Core.Path.{_≡_}
-use mathlib.Core.Bool.{false}
+use mathlib.Core.Bool.{true, false}
 use mathlib.Core.List.{List}
 use Prim.Native.Nat.{ℕ, _+_, _^_, _≤_, _<_}
 use lib.ListN.{length, getD}
@@ -11,6 +11,7 @@ use Rattle.netlist.specs.declared.Element.{Element}
 use Rattle.netlist.specs.declared.Element.the-variants.{Input, Output, Register, Async, Clocked, Gate}
 use Rattle.netlist.specs.Net.{Body, Words, WithFill, Table, noTable, tableNo, spelled, Net, size, elementAt, widthAt, source, operands, isInput, isOutput, Sourced}
 use Rattle.netlist.specs.Reach.{Reads}
+use Rattle.netlist.specs.Verdict.{readsTable}
 use Rattle.netlist.specs.Rank.{Loop, Ring}
 
 -- 7, of an operation: its width w and its operands' widths
@@ -89,6 +90,10 @@ WidthsRight N v = ElementWidths (N .tables) (elementAt N v) (widthAt N v) (λ p.
 abbrev pub HasReader : Net → ℕ → Type 0
 HasReader N v = isInput (elementAt N v) ≡ false → isOutput (elementAt N v) ≡ false → (x : ℕ) × Reads N x v
 
+-- 17, of table m: a node reads it
+abbrev pub TableHasReader : Net → ℕ → Type 0
+TableHasReader N m = (v : ℕ) × (v < size N) × (readsTable (elementAt N v) m ≡ true)
+
 -- 4, of how a table is written, beyond what its addresses show: beside a fill word there is some word, and the fill word fits also where no address reads it
 abbrev pub BodyFits : Body → ℕ → Type 0
 BodyFits (Words l) m = Unit {0}
@@ -126,3 +131,7 @@ pub record WellFormed (N : Net) : Type 0 where
   pub read : (v : ℕ) → v < size N → HasReader N v
   pub no-loop : (v : ℕ) → Loop N v → ⊥
   pub no-ring : (v : ℕ) → Ring N v → ⊥
+
+-- and 17. It stands beside them: a netlist that is late-started lacks it, and nothing else, until its unread tables are left out
+abbrev pub TablesRead : Net → Type 0
+TablesRead N = (m : ℕ) → m < length (N .tables) → TableHasReader N m

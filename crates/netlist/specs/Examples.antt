@@ -6,7 +6,7 @@ use Rattle.lists.specs.Paths.{pick}
 use Rattle.words.specs.declared.Op.the-variants.{Add}
 use Rattle.netlist.specs.Net.{Words, WithFill, Net, rom, nodeAt, elementAt, widthAt, source, spelled}
 use Rattle.netlist.specs.Reach.{readsTest, reachedFirst, reachedNext, reachedAfter, reachesItself}
-use Rattle.netlist.specs.Verdict.{badSource, badWidth, unread, inLoop, inRing, verdict, readerStages, readerVerdict}
+use Rattle.netlist.specs.Verdict.{badSource, badWidth, unread, tableInUse, unreadTable, inLoop, inRing, verdict, readerStages, readerVerdict}
 use Rattle.netlist.specs.NodeField.{opRead, kindRead, elementRead, sourcesFrom, nodeRead, nodeContent}
 use Rattle.netlist.specs.TableField.{wordsGood, filledGood, bodyGood, tableGood, bodyRead, tableRead, tableContent}
 use Rattle.netlist.specs.Scan.{tableStep, nodeStep, endStep, stepAt, walk, afterHead, scan}
@@ -20,7 +20,7 @@ unfolding pick opRead kindRead elementRead sourcesFrom nodeRead wordsGood filled
 reading = 0
 
 unfoldable pub checking : ℕ
-unfolding reading nodeAt elementAt widthAt source readsTest reachedFirst reachedNext reachedAfter reachesItself badSource badWidth unread inLoop inRing verdict readerStages readerVerdict fileVerdict checkAnswer
+unfolding reading nodeAt elementAt widthAt source readsTest reachedFirst reachedNext reachedAfter reachesItself badSource badWidth unread tableInUse unreadTable inLoop inRing verdict readerStages readerVerdict fileVerdict checkAnswer
 checking = 0
 
 adder : Net
@@ -109,3 +109,17 @@ no-word = refl
 three-of-two : checkAnswer (1 ∷ 0 ∷ 1 ∷ 1 ∷ 5 ∷ 0 ∷ 10 ∷ 1 ∷ 1 ∷ 0 ∷ 0 ∷ 0 ∷ 0 ∷ 0 ∷ 1 ∷ 0 ∷ 1 ∷ 4 ∷ 0 ∷ 0 ∷ []) ≡ Refused 4 4
 unfolding checking
 three-of-two = refl
+
+-- ---- T-06: a table that no node reads
+
+-- one table, no node
+unread-table : checkAnswer (1 ∷ 0 ∷ 1 ∷ 1 ∷ 2 ∷ 0 ∷ 6 ∷ 1 ∷ 1 ∷ 0 ∷ 1 ∷ 0 ∷ 0 ∷ 4 ∷ 0 ∷ 0 ∷ []) ≡ Refused 17 0
+unfolding checking
+unread-table = refl
+
+-- two tables and a ROM that reads itself: 17 comes before 9
+before-the-loop : checkAnswer
+    (1 ∷ 0 ∷ 1 ∷ 1 ∷ 2 ∷ 0 ∷ 6 ∷ 1 ∷ 1 ∷ 0 ∷ 1 ∷ 0 ∷ 0 ∷ 2 ∷ 0 ∷ 6 ∷ 1 ∷ 1 ∷ 0 ∷ 0 ∷ 0 ∷ 1
+    ∷ 3 ∷ 0 ∷ 5 ∷ 3 ∷ 1 ∷ 0 ∷ 0 ∷ 0 ∷ 4 ∷ 0 ∷ 0 ∷ []) ≡ Refused 17 1
+unfolding checking
+before-the-loop = refl

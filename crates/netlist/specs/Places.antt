@@ -1,4 +1,4 @@
--- A check over nodes among others: it refuses just where a node breaks its rule, with the lowest such node. Assumes nothing.
+-- A check over nodes, or over tables, among others: it refuses just where one of them breaks its rule, with the lowest such. Assumes nothing.
 use mathlib.Core.Path.{_≡_, refl, sym, ap, _∙_}
 use mathlib.Core.Logic.{_↔_, _⊎_, inl, inr, ⊎-elim}
 use mathlib.Core.Bool.{Bool, true, false, false≢true}
@@ -13,16 +13,16 @@ use Rattle.lists.specs.SearchLaws.{lowest-here}
 use Rattle.netlist.specs.Verdict.{atLowest, Stage, verdict}
 use Rattle.netlist.specs.declared.Verdict.the-variants.{Refuses}
 
--- v is the lowest of the n nodes that P holds of
-pub record LowestNode (n : ℕ) (P : ℕ → Type 0) (v : ℕ) : Type 0 where
+-- v is the lowest of n nodes, or tables, that P holds of
+pub record LowestOf (n : ℕ) (P : ℕ → Type 0) (v : ℕ) : Type 0 where
   pub inside : v < n
   pub holds : P v
   pub none-lower : (u : ℕ) → u < v → P u → ⊥
 
--- the search for a test finds that node, and nothing else below n
+-- the search for a test finds it, and nothing else below n
 module _ (n : ℕ) (q : ℕ → Bool) (P : ℕ → Type 0) (is : (v : ℕ) → v < n → q v ≡ true ↔ P v) where
-  pub lowest-node : (v : ℕ) → (lowest n q ≡ v) × (v < n) ↔ LowestNode n P v
-  lowest-node v = (found, finds)
+  pub lowest-of : (v : ℕ) → (lowest n q ≡ v) × (v < n) ↔ LowestOf n P v
+  lowest-of v = (found, finds)
     where
       hit : lowest n q < n → q (lowest n q) ≡ true
       hit l = pick (lowestFrom-is q 0 n .found)
@@ -31,14 +31,14 @@ module _ (n : ℕ) (q : ℕ → Bool) (P : ℕ → Type 0) (is : (v : ℕ) → v
           pick (inl e) = absurd (omega arith)
           pick (inr e) = e .1
 
-      found : (lowest n q ≡ v) × (v < n) → LowestNode n P v
+      found : (lowest n q ≡ v) × (v < n) → LowestOf n P v
       found (e, l) = record {
         inside = l;
         holds = is v l .0 (ap q (sym e) ∙ hit (omega arith));
         none-lower = λ u m w. false≢true (sym (lowestFrom-is q 0 n .none-before u zero-le (omega arith)) ∙ is u (omega arith) .1 w);
       }
 
-      finds : LowestNode n P v → (lowest n q ≡ v) × (v < n)
+      finds : LowestOf n P v → (lowest n q ≡ v) × (v < n)
       finds r = (
         sym (lowest-here n q v (λ u m. ⊎-elim (λ t. absurd (r .none-lower u m (is u (let i = r .inside in omega arith) .0 t))) (λ t. t) (true-or-false (q u))) (r .inside) (is v (r .inside) .1 (r .holds))),
         r .inside,
@@ -56,7 +56,7 @@ unfolding verdict
 skip s l h = rw (lowest-all (s .over) (s .bad) h, verdict)
 
 module _ (k n : ℕ) (q : ℕ → Bool) (l : List Stage) where
-  -- a check that stands first refuses with its lowest node
+  -- a check that stands first refuses with its lowest
   pub refuses : (v : ℕ) → (lowest n q ≡ v) × (v < n) → verdict (atLowest k n q ∷ l) ≡ Refuses k v
   unfolding verdict
   refuses v (e, h) = let t : ltb (lowest n q) n ≡ true = lt-ltb (lowest n q) n (omega arith) in rw (t, verdict) (ap (Refuses k) e)
@@ -87,8 +87,8 @@ lacks-number k v (s ∷ l) h e =
 
 -- THE LAW
 pub refuses-iff : (k n : ℕ) (q : ℕ → Bool) (l : List Stage) (P : ℕ → Type 0) → ((v : ℕ) → v < n → q v ≡ true ↔ P v) → Lacks k l
-    → (v : ℕ) → verdict (atLowest k n q ∷ l) ≡ Refuses k v ↔ LowestNode n P v
+    → (v : ℕ) → verdict (atLowest k n q ∷ l) ≡ Refuses k v ↔ LowestOf n P v
 refuses-iff k n q l P is other v = (
-  λ e. lowest-node n q P is v .0 (refused k n q l v e (lacks-number k v l other)),
-  λ r. refuses k n q l v (lowest-node n q P is v .1 r),
+  λ e. lowest-of n q P is v .0 (refused k n q l v e (lacks-number k v l other)),
+  λ r. refuses k n q l v (lowest-of n q P is v .1 r),
 )

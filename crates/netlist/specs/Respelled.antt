@@ -8,10 +8,11 @@ use lib.ListN.{length, getD, length-map}
 use lib.Dec.{eqb, ltb}
 use Rattle.lists.specs.Lists.{anyBelow}
 use Rattle.netlist.specs.declared.Element.{Element}
+use Rattle.netlist.specs.declared.Verdict.{Verdict}
 use Rattle.netlist.specs.declared.Element.the-variants.{Input, Output, Register, Async, Clocked, Gate}
 use Rattle.netlist.specs.Net.{Words, Table, noTable, spelled, Net, size, nodeAt, elementAt, widthAt, source, operands, tableNo}
 use Rattle.netlist.specs.Reach.{readsTest, reachedFirst, reachedNext, reachedAfter, reachesItself}
-use Rattle.netlist.specs.Verdict.{tableThere, noSource, badSource, widthsRight, badWidth, unread, inLoop, inRing, atLowest, verdict, readerStages, readerVerdict}
+use Rattle.netlist.specs.Verdict.{tableThere, noSource, badSource, widthsRight, badWidth, unread, tableInUse, unreadTable, inLoop, inRing, atLowest, verdict, readerStages, readerVerdict}
 
 pub record AnswerAlike (t u : Table) : Type 0 where
   pub bits : t .bits ≡ u .bits
@@ -35,7 +36,7 @@ over us N = record { tables = us; nodes = N .nodes }
 pub respelled-is : {N M : Net} → Respelled N M → over (M .tables) N ≡ M
 respelled-is {N} {M} r = λ i. record { tables = M .tables; nodes = r .nodes i }
 
--- ---- checks 6 to 10
+-- ---- checks 6 to 10, and 17
 
 module _ (ts us : List Table) (a : TablesAlike ts us) where
   there-alike : (e : Element) → tableThere ts e ≡ tableThere us e
@@ -65,10 +66,12 @@ module _ (N : Net) (us : List Table) (a : TablesAlike (N .tables) us) where
   bad-widths-alike = fun-ext (λ v. ap not (widths-alike (N .tables) us a (elementAt N v) (widthAt N v) (λ p. widthAt N (source N v p))))
 
   over-verdict : readerVerdict N ≡ readerVerdict (over us N)
-  unfolding readerVerdict readerStages unread readsTest inLoop inRing reachesItself reachedAfter reachedNext reachedFirst elementAt source nodeAt
-  over-verdict =
-      ap₂ (λ (six seven : ℕ → Bool). verdict (atLowest 6 (size N) six ∷ atLowest 7 (size N) seven ∷ atLowest 8 (size N) (unread N) ∷ atLowest 9 (size N) (inLoop N) ∷ atLowest 10 (size N) (inRing N) ∷ []))
-      sources-alike bad-widths-alike
+  unfolding readerVerdict readerStages unread unreadTable tableInUse readsTest inLoop inRing reachesItself reachedAfter reachedNext reachedFirst elementAt source nodeAt
+  over-verdict = ap₂ (λ (six seven : ℕ → Bool). stagesBy six seven (length (N .tables))) sources-alike bad-widths-alike ∙ ap (stagesBy (badSource (over us N)) (badWidth (over us N))) (a .count)
+    where
+      stagesBy : (ℕ → Bool) → (ℕ → Bool) → ℕ → Verdict
+      stagesBy six seven n = verdict (atLowest 6 (size N) six ∷ atLowest 7 (size N) seven ∷ atLowest 8 (size N) (unread N)
+          ∷ atLowest 17 n (unreadTable N) ∷ atLowest 9 (size N) (inLoop N) ∷ atLowest 10 (size N) (inRing N) ∷ [])
 
 -- THE LAW: the reader says the same of both, places included
 pub respelled-verdict : {N M : Net} → Respelled N M → readerVerdict N ≡ readerVerdict M

@@ -1,4 +1,5 @@
--- Checks as a list of stages, and the reader's: the refusals 6 to 10 of a netlist whose fields are in order (1 to 5), each with its place, in checking order. Assumes nothing.
+-- Checks as a list of stages, and the reader's: the refusals 6 to 8, 17 (T-06), 9 and 10 of a netlist whose fields are in order (1 to 5), each with its place, in checking order.
+-- Assumes nothing.
 use mathlib.Core.Bool.{Bool, true, false, not, _&&_, _||_}
 use mathlib.Core.List.{List, [], _∷_}
 use Prim.Native.Nat.{ℕ, _+_}
@@ -12,7 +13,7 @@ use Rattle.netlist.specs.declared.Verdict.{Verdict}
 use Rattle.netlist.specs.declared.Verdict.the-variants.{Fine, Refuses}
 use Rattle.netlist.specs.declared.Element.the-variants.{Input, Output, Register, Async, Clocked, Gate}
 use Rattle.lists.specs.Lists.{anyBelow, lowest}
-use Rattle.netlist.specs.Net.{Table, noTable, tableNo, Net, size, elementAt, widthAt, source, operands, isInput, isOutput, inRegisters, inClock}
+use Rattle.netlist.specs.Net.{Table, noTable, tableNo, tableOf, Net, size, elementAt, widthAt, source, operands, isInput, isOutput, isMemory, inRegisters, inClock}
 use Rattle.netlist.specs.Reach.{readsTest, reachesItself}
 
 -- 6: no such node or table, or an output port as source
@@ -64,6 +65,16 @@ badWidth N v = not (widthsRight (N .tables) (elementAt N v) (widthAt N v) (λ p.
 unfoldable pub unread : Net → ℕ → Bool
 unread N v = not (isInput (elementAt N v) || isOutput (elementAt N v)) && not (anyBelow (size N) (λ x. readsTest N x v))
 
+-- 17: "a table is read by no node"
+abbrev pub readsTable : Element → ℕ → Bool
+readsTable e m = isMemory e && eqb (tableOf e) m
+
+unfoldable pub tableInUse : Net → ℕ → Bool
+tableInUse N m = anyBelow (size N) (λ v. readsTable (elementAt N v) m)
+
+unfoldable pub unreadTable : Net → ℕ → Bool
+unreadTable N m = not (tableInUse N m)
+
 -- 9: it reaches itself through gates and asynchronous ROMs alone. 10: through registers alone
 unfoldable pub inLoop : Net → ℕ → Bool
 inLoop N v = reachesItself inClock N v
@@ -95,9 +106,11 @@ abbrev pub onward : Verdict → Verdict → Verdict
 onward Fine w = w
 onward (Refuses k p) w = Refuses k p
 
--- what the reader says
+-- what the reader says: 17 stands "directly after 8"
 unfoldable pub readerStages : Net → List Stage
-readerStages N = atLowest 6 (size N) (badSource N) ∷ atLowest 7 (size N) (badWidth N) ∷ atLowest 8 (size N) (unread N) ∷ atLowest 9 (size N) (inLoop N) ∷ atLowest 10 (size N) (inRing N) ∷ []
+readerStages N =
+    atLowest 6 (size N) (badSource N) ∷ atLowest 7 (size N) (badWidth N) ∷ atLowest 8 (size N) (unread N)
+    ∷ atLowest 17 (length (N .tables)) (unreadTable N) ∷ atLowest 9 (size N) (inLoop N) ∷ atLowest 10 (size N) (inRing N) ∷ []
 
 unfoldable pub readerVerdict : Net → Verdict
 readerVerdict N = verdict (readerStages N)

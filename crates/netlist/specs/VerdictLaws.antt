@@ -1,4 +1,4 @@
--- Verdicts, one after the other; and the reader finds nothing to refuse just where the netlist is well formed. Assumes nothing.
+-- Verdicts, one after the other; and the reader finds nothing to refuse just where the netlist is well formed and reads its tables. Assumes nothing.
 use mathlib.Core.Path.{_≡_, refl, sym, ap, _∙_}
 use mathlib.Core.Logic.{_↔_, _⊎_, inl, inr, ⊎-elim}
 use mathlib.Core.Bool.{Bool, true, false, not, _&&_, _||_, true≢false, false≢true}
@@ -19,9 +19,9 @@ use Rattle.netlist.specs.Reach.{Reads, readsTest}
 use Rattle.netlist.specs.Reach.{reachesItself}
 use Rattle.netlist.specs.declared.Verdict.{Verdict}
 use Rattle.netlist.specs.declared.Verdict.the-variants.{Fine, Refuses}
-use Rattle.netlist.specs.Verdict.{tableThere, badSource, opWidths, memoryRight, widthsRight, badWidth, unread, inLoop, inRing, Stage, verdict, onward, readerStages, readerVerdict}
+use Rattle.netlist.specs.Verdict.{tableThere, badSource, opWidths, memoryRight, widthsRight, badWidth, unread, readsTable, tableInUse, unreadTable, inLoop, inRing, Stage, verdict, onward, readerStages, readerVerdict}
 use Rattle.netlist.specs.Rank.{Through, once, then}
-use Rattle.netlist.specs.Checks.{OpWidths, MemoryWidths, ElementWidths, HasTable, tableIn, SourcesRight, WidthsRight, HasReader, FieldsFit, WellFormed}
+use Rattle.netlist.specs.Checks.{OpWidths, MemoryWidths, ElementWidths, HasTable, tableIn, SourcesRight, WidthsRight, HasReader, TableHasReader, FieldsFit, WellFormed, TablesRead}
 use Rattle.netlist.specs.ReachLaws.{reaches-itself-iff}
 
 eqb-from : {m n : ℕ} → m ≡ n → eqb m n ≡ true
@@ -195,7 +195,7 @@ module _ (N : Net) where
       read-by : (x : ℕ) × Reads N x v → anyBelow (size N) (λ x. readsTest N x v) ≡ true
       read-by (x, r) = anyBelow-intro (size N) (λ y. readsTest N y v) x (r .inside) (anyBelow-intro (operands (elementAt N x)) (λ p. eqb (source N x p) v) (r .operand) (r .used) (eqb-from (r .from)))
 
-  -- ---- the tests of 6, 7 and 8 are their rules
+  -- ---- the tests of 6, 7, 8 and 17 are their rules
 
   pub six-is : (v : ℕ) → badSource N v ≡ false ↔ SourcesRight N v
   six-is v = (source-test v, test-source v)
@@ -210,11 +210,19 @@ module _ (N : Net) where
   pub eight-is : (v : ℕ) → unread N v ≡ false ↔ HasReader N v
   eight-is v = (unread-test v, test-unread v)
 
+  pub seventeen-is : (m : ℕ) → unreadTable N m ≡ false ↔ TableHasReader N m
+  unfolding unreadTable tableInUse
+  seventeen-is m = (
+    λ t. anyBelow-elim (size N) (λ v. readsTable (elementAt N v) m) (not-true _ t),
+    λ (v, h, r). not-false _ (anyBelow-intro (size N) (λ x. readsTable (elementAt N x) m) v h r),
+  )
+
   -- the verdict, stage by stage
   record Stages : Type 0 where
     six : (v : ℕ) → v < size N → badSource N v ≡ false
     seven : (v : ℕ) → v < size N → badWidth N v ≡ false
     eight : (v : ℕ) → v < size N → unread N v ≡ false
+    seventeen : (m : ℕ) → m < length (N .tables) → unreadTable N m ≡ false
     nine : (v : ℕ) → v < size N → inLoop N v ≡ false
     ten : (v : ℕ) → v < size N → inRing N v ≡ false
 
@@ -222,11 +230,11 @@ module _ (N : Net) where
   unfolding readerVerdict readerStages
   stages e =
       let c : Clear (readerStages N) = fine-clear (readerStages N) e in
-      record { six = c .0; seven = c .1 .0; eight = c .1 .1 .0; nine = c .1 .1 .1 .0; ten = c .1 .1 .1 .1 .0 }
+      record { six = c .0; seven = c .1 .0; eight = c .1 .1 .0; seventeen = c .1 .1 .1 .0; nine = c .1 .1 .1 .1 .0; ten = c .1 .1 .1 .1 .1 .0 }
 
   staged : Stages → readerVerdict N ≡ Fine
   unfolding readerVerdict readerStages
-  staged s = clear-fine (readerStages N) (s .six, (s .seven, (s .eight, (s .nine, (s .ten, tt)))))
+  staged s = clear-fine (readerStages N) (s .six, (s .seven, (s .eight, (s .seventeen, (s .nine, (s .ten, tt))))))
 
   -- what check 6 leaves
   pub six-sourced : ((v : ℕ) → v < size N → badSource N v ≡ false) → Sourced N
@@ -256,13 +264,18 @@ module _ (N : Net) where
         no-ring = λ v w. let h : v < size N = through-inside inRegisters w in true≢false (sym (reaches-itself-iff inRegisters N (stages-sourced s) v h .1 w) ∙ s .ten v h);
       }
 
-  -- and what is well formed the reader takes
-  pub fine-reader : WellFormed N → readerVerdict N ≡ Fine
+  -- and reads its tables
+  pub reader-tables : readerVerdict N ≡ Fine → TablesRead N
+  reader-tables e m h = seventeen-is m .0 (stages e .seventeen m h)
+
+  -- and what is well formed and reads its tables the reader takes
+  pub fine-reader : WellFormed N → TablesRead N → readerVerdict N ≡ Fine
   unfolding inLoop inRing Sourced
-  fine-reader wf = staged (record {
+  fine-reader wf tables = staged (record {
     six = λ v h. six-is v .1 (wf .has-table v h, λ p q. (wf .sourced v p h q, wf .outputs-unread v p h q));
     seven = λ v h. seven-is v .1 (wf .widths v h);
     eight = λ v h. eight-is v .1 (wf .read v h);
+    seventeen = λ m h. seventeen-is m .1 (tables m h);
     nine = λ v h. ⊎-elim (λ t. absurd (wf .no-loop v (reaches-itself-iff inClock N (wf .sourced) v h .0 t))) (λ t. t) (true-or-false (reachesItself inClock N v));
     ten = λ v h. ⊎-elim (λ t. absurd (wf .no-ring v (reaches-itself-iff inRegisters N (wf .sourced) v h .0 t))) (λ t. t) (true-or-false (reachesItself inRegisters N v));
   })

@@ -85,7 +85,7 @@ module _ {s net : List ℕ} {r : Retimed} (t : LaysFile Plain s net r) where
   laid-last b q =
       let (accepted, lead, laid) = laid-accepted Plain t q in
       let p = past-13 Plain s accepted in
-      rw (laid .0) (rw (p .reads) (new-last s b p))
+      rw (laid .0) (rw (p .file .reads) (new-last s b p))
 
   module _ (l : List ℕ) where
     pub laid-fits : {m : ℕ} → r ≡ Laid m → previewed (netOf s net) m l ≡ previewFile s l

@@ -8,8 +8,9 @@ use lib.ListN.{length, getD, take}
 use lib.Seq.{getD-take}
 use lib.Dec.{ltb, lit<}
 use borrow.Author.Tests.{lt-ltb, le-ltb}
-use Rattle.netlist.specs.Net.{Net, size}
-use Rattle.netlist.specs.Checks.{WellFormed}
+use Rattle.netlist.specs.Net.{Net, size, elementAt}
+use Rattle.netlist.specs.Trim.{trimmed}
+use Rattle.netlist.specs.Checks.{HasTable, WellFormed}
 use Rattle.netlist.specs.Verdict.{ofWhole, verdict, onward}
 use Rattle.netlist.specs.VerdictLaws.{fine-clear}
 use Rattle.netlist.specs.File.{Decoded, decode, decodedNet, judged, fileVerdict}
@@ -24,10 +25,12 @@ use Rattle.retiming.specs.Leads.{closedDebt}
 use Rattle.retiming.specs.Rewrite.{timing}
 use Rattle.retiming.specs.Gates.{spots, gatedWith}
 use Rattle.retiming.specs.Candidate.{size-new}
+use Rattle.retiming.specs.Retimed.{retimed-alike}
+use Rattle.retiming.specs.PastDebt.{bounded}
 use Rattle.retiming.specs.Debt.{grown}
 use Rattle.retiming.specs.Preview.{largestLead}
-use Rattle.retiming.specs.Modes.{modeClosed, modeOwing, modeTiming, modeNet, modeVerdict, modeFileVerdict}
-use Rattle.retiming.specs.ModeLaws.{mode-suits, mode-net}
+use Rattle.retiming.specs.Modes.{modeClosed, modeOwing, modeTiming, modeTrimmed, modeNet, modeVerdict, modeFileVerdict}
+use Rattle.retiming.specs.ModeLaws.{mode-size, mode-suits, mode-net}
 use Rattle.retiming.specs.RewrittenFile.{mode-judged}
 use Rattle.leads.specs.Debts.{debtsVerdict, debts-first}
 use Rattle.leads.specs.Settled.{LeadsIn}
@@ -41,9 +44,9 @@ use Rattle.retime.specs.declared.Retimed.the-variants.{Laid, Refused}
 unfoldable pub grownVerdict : Mode → Net → Verdict
 grownVerdict mode N = verdict (ofWhole 13 (λ v. grown (modeNet mode N)) ∷ [])
 
--- the new netlist is the one over the mode's timing
+-- the new netlist is the one over the mode's timing, without the tables that the mode leaves out
 abbrev pub NewIs : Mode → Net → Type 0
-NewIs mode N = gatedWith N (modeTiming mode N) (zeroWord N) ≡ modeNet mode N
+NewIs mode N = modeTrimmed mode (gatedWith N (modeTiming mode N) (zeroWord N)) ≡ modeNet mode N
 
 -- l is a circuit of the netlist, over the tables of the file s
 abbrev pub IsCircuit : List ℕ → List ℕ → Net → Type 0
@@ -52,7 +55,7 @@ IsCircuit s l M = (netOf s l ≡ M) × Circuit s l
 -- the plan was made in the mode that is asked for
 module _ (mode : Mode) (N : Net) (is : NewIs mode N) {made : Mode} (same : made ≡ mode) where
   new-size : size (modeNet mode N) ≡ length (spots N (modeTiming made N) (zeroWord N))
-  new-size = sym (ap size is) ∙ size-new N (modeTiming mode N) (zeroWord N) ∙ ap (λ (m : Mode). length (spots N (modeTiming m N) (zeroWord N))) (sym same)
+  new-size = sym (ap size is) ∙ mode-size mode (gatedWith N (modeTiming mode N) (zeroWord N)) ∙ size-new N (modeTiming mode N) (zeroWord N) ∙ ap (λ (m : Mode). length (spots N (modeTiming m N) (zeroWord N))) (sym same)
 
   pub says-13 : 1024 < length (spots N (modeTiming made N) (zeroWord N)) → Refuses 13 65535 ≡ grownVerdict mode N
   unfolding grownVerdict verdict grown
@@ -62,8 +65,30 @@ module _ (mode : Mode) (N : Net) (is : NewIs mode N) {made : Mode} (same : made 
   unfolding grownVerdict verdict grown
   says-fine h = let g : ltb 1024 (size (modeNet mode N)) ≡ false = le-ltb 1024 (size (modeNet mode N)) (omega (arith, new-size)) in sym (rw (g, verdict))
 
-  pub laid-new : {s l : List ℕ} → IsCircuit s l (gatedWith N (modeTiming made N) (zeroWord N)) → IsCircuit s l (modeNet mode N)
-  laid-new (n, k) = (n ∙ ap (λ (m : Mode). gatedWith N (modeTiming m N) (zeroWord N)) same ∙ is, k)
+  pub laid-as : {s l : List ℕ} → IsCircuit s l (gatedWith N (modeTiming made N) (zeroWord N)) → IsCircuit s l (gatedWith N (modeTiming mode N) (zeroWord N))
+  laid-as (n, k) = (n ∙ ap (λ (m : Mode). gatedWith N (modeTiming m N) (zeroWord N)) same, k)
+
+-- where 13 is not said, each ROM that is laid has its table
+module _ (mode : Mode) (N : Net) (is : NewIs mode N) (s l : List ℕ) (n : netOf s l ≡ gatedWith N (modeTiming mode N) (zeroWord N)) where
+  pub laid-has : {timing : List ℕ} → Timed N (modeTiming mode N) timing → {v : Verdict} → v ≡ grownVerdict mode N → v ≡ Fine
+      → (v : ℕ) → v < size (netOf s l) → HasTable (netOf s l .tables) (elementAt (netOf s l) v)
+  unfolding grownVerdict
+  laid-has t e q =
+      let M = gatedWith N (modeTiming mode N) (zeroWord N) in
+      let few = bounded (modeNet mode N) (fine-clear _ (sym e ∙ q) .0 0 (lit< tt)) .nodes in
+      subst (λ (M : Net). (v : ℕ) → v < size M → HasTable (M .tables) (elementAt M v)) (sym n)
+      (retimed-alike N (t .formed) (modeTiming mode N) (t .suits .retimes) (record { nodes = omega (arith, few, ap size is, mode-size mode M) }) .new .has-table)
+
+  pub laid-new : {m : List ℕ} → IsCircuit s m (modeTrimmed mode (netOf s l)) → IsCircuit s m (modeNet mode N)
+  laid-new (e, k) = (e ∙ ap (modeTrimmed mode) n ∙ is, k)
+
+-- what the mode leaves out
+module _ (M : Net) {mode : Mode} {s l : List ℕ} where
+  pub left-plain : mode ≡ Plain → IsCircuit s l M → IsCircuit s l (modeTrimmed mode M)
+  left-plain e c = subst (λ (m : Mode). IsCircuit s l (modeTrimmed m M)) (sym e) c
+
+  pub left-late : mode ≡ Late → IsCircuit s l (trimmed M) → IsCircuit s l (modeTrimmed mode M)
+  left-late e c = subst (λ (m : Mode). IsCircuit s l (modeTrimmed m M)) (sym e) c
 
 -- ---- what is answered, and what is then laid
 
@@ -170,8 +195,8 @@ module _ (mode : Mode) where
     unfolding fileVerdict
     taken-as =
         sym (ap (λ (v : Verdict). retimedBy mode v (decodedNet (decode s))) (mode-judged mode s)
-        ∙ ap (λ (d : Decoded). retimedBy mode (onward (judged d) (modeVerdict mode (decodedNet d))) (decodedNet d)) (o .decodes)
-        ∙ ap (λ (v : Verdict). retimedBy mode (onward v (modeVerdict mode (netOf s net))) (netOf s net)) (o .fine))
+        ∙ ap (λ (d : Decoded). retimedBy mode (onward (judged d) (modeVerdict mode (decodedNet d))) (decodedNet d)) (o .file .reads)
+        ∙ ap (λ (v : Verdict). retimedBy mode (onward v (modeVerdict mode (netOf s net))) (netOf s net)) (o .file .fine))
 
     pub file-taken : {l : List ℕ} {r : Retimed} → Lays s l mode (netOf s net) (retimedBy mode (modeVerdict mode (netOf s net)) (netOf s net)) r → LaysFile mode s l r
-    file-taken (t, laid) = (t ∙ taken-as, λ m e. let h = laid m e in (h .0 ∙ ap (λ (d : Decoded). modeNet mode (decodedNet d)) (sym (o .decodes)), h .1))
+    file-taken (t, laid) = (t ∙ taken-as, λ m e. let h = laid m e in (h .0 ∙ ap (λ (d : Decoded). modeNet mode (decodedNet d)) (sym (o .file .reads)), h .1))

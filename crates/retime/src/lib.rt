@@ -13,20 +13,23 @@ use plan::PLAN;
 use plan::make_plan;
 use retiming::Mode;
 use steering::add_gates;
+use trimming::trim_tables;
 use wires::TIMING;
 use wires::find_roots;
 use wiring::WIRES;
 ghost use mathlib.Core.Path.{_≡_};
 ghost use mathlib.Core.Bool.{false};
-ghost use Prim.Native.Nat.{_≤_};
+ghost use Prim.Native.Nat.{ℕ, _≤_, _<_};
 ghost use lib.ListN.{length};
-ghost use Rattle.netlist.specs.Net.{Net, inClock};
-ghost use Rattle.netlist.specs.Checks.{WellFormed};
+ghost use Rattle.netlist.specs.Net.{Net, size, elementAt, inClock};
+ghost use Rattle.netlist.specs.Checks.{HasTable, WellFormed};
 ghost use Rattle.circuit.specs.Circuit.{circuitWords, orderOf};
 ghost use Rattle.circuit.specs.Opened.{opened};
 ghost use Rattle.circuit.specs.Order.{Complete};
 ghost use Rattle.evaluate.specs.Clock.{Inside};
-ghost use Rattle.retiming.specs.Modes.{modeClosed, modeTiming, modeNet, modeVerdict};
+ghost use Rattle.behaviour.specs.Run.{zeroWord};
+ghost use Rattle.retiming.specs.Gates.{gatedWith};
+ghost use Rattle.retiming.specs.Modes.{modeClosed, modeTiming, modeTrimmed, modeVerdict};
 ghost use Rattle.wiring.specs.Wiring.{Timed};
 ghost use Rattle.retime.specs.Laying.{grownVerdict, NewIs, modeLead, retimedBy, IsCircuit, Lays, LaysFile};
 
@@ -41,7 +44,7 @@ fn lay_timed(file: &[u8], net: &[u16], mode: Mode, timing: &[u16], new: &mut [u1
     ghost { Net }
     requires { λ N. opened 𝓤 (now file) (now net) N (Timed N (modeTiming mode N) (now timing) × (length (now timing) ≡ 3072) × Inside N × Complete inClock N (orderOf (now net))
         × (circuitWords ≤ length (now new)) × NewIs mode N) }
-    ensures { λ N r. ⌜ (r ≡ grownVerdict mode N) × (r ≡ Verdict.Fine → IsCircuit (now (file .entry)) (now (new .exit)) (modeNet mode N)) ⌝ }
+    ensures { λ N r. ⌜ (r ≡ grownVerdict mode N) × (r ≡ Verdict.Fine → IsCircuit (now (file .entry)) (now (new .exit)) (gatedWith N (modeTiming mode N) (zeroWord N))) ⌝ }
 {
     let mut start = [0u16; 1024];
     first_clock(file, net, &mut start);
@@ -76,6 +79,18 @@ fn lay_timed(file: &[u8], net: &[u16], mode: Mode, timing: &[u16], new: &mut [u1
     Verdict::Fine
 }
 
+// Leaves out the tables that no node of the new circuit reads. The plain mode has none such.
+fn leave_out_tables(file: &[u8], mode: Mode, new: &mut [u16])
+    ghost { Net }
+    requires { λ M. opened 𝓤 (now file) (now new) M ((v : ℕ) → v < size M → HasTable (M .tables) (elementAt M v)) }
+    ensures { λ M _. ⌜ IsCircuit (now (file .entry)) (now (new .exit)) (modeTrimmed mode M) ⌝ }
+{
+    match mode {
+        Mode::Plain => {}
+        Mode::Late => trim_tables(file, new),
+    }
+}
+
 // What the preview tells of the leads: nobody asks for it in the late mode.
 fn lead_told(file: &[u8], net: &[u16], mode: Mode, timing: &[u16]) -> u16
     ghost { Net }
@@ -88,7 +103,7 @@ fn lead_told(file: &[u8], net: &[u16], mode: Mode, timing: &[u16]) -> u16
     }
 }
 
-// 13, and what is told of the leads.
+// 13, then what the mode leaves out, and what is told of the leads.
 fn retime_timed(file: &[u8], net: &[u16], mode: Mode, timing: &[u16], new: &mut [u16]) -> Retimed
     ghost { Net }
     requires { λ N. opened 𝓤 (now file) (now net) N (Timed N (modeTiming mode N) (now timing) × (length (now timing) ≡ 3072) × Inside N × Complete inClock N (orderOf (now net))
@@ -97,7 +112,10 @@ fn retime_timed(file: &[u8], net: &[u16], mode: Mode, timing: &[u16], new: &mut 
 {
     match lay_timed(file, net, mode, timing, new) {
         Verdict::Refuses(number, place) => Retimed::Refused(number, place),
-        Verdict::Fine => Retimed::Laid(lead_told(file, net, mode, timing)),
+        Verdict::Fine => {
+            leave_out_tables(file, mode, new);
+            Retimed::Laid(lead_told(file, net, mode, timing))
+        }
     }
 }
 

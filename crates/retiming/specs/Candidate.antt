@@ -16,10 +16,10 @@ use Rattle.netlist.specs.declared.Element.the-variants.{Input, Output, Register
 use Rattle.netlist.specs.declared.Node.{Node}
 use Rattle.lists.specs.Lists.{one}
 use Rattle.lists.specs.BelowLaws.{T→true, true→T, true-or-false, lt-or-le, getD-map-lt}
-use Rattle.netlist.specs.Net.{Net, size, nodeAt, nowhere, elementAt, widthAt, source, operands, gives, delayed, arity, tableNo, heldAt, heldBy, noTable, spelled, tableOf, contentsIn, contentsAt, withinClock, inClock, isRegister, isInput, isOutput, isClocked, isAsync, isMemory, Behaves, Sourced, RegistersFit}
+use Rattle.netlist.specs.Net.{Net, size, nodeAt, nowhere, elementAt, widthAt, source, operands, gives, delayed, arity, tableNo, retabled, heldAt, heldBy, noTable, spelled, tableOf, contentsIn, contentsAt, withinClock, inClock, isRegister, isInput, isOutput, isClocked, isAsync, isMemory, Behaves, Sourced, RegistersFit}
 use Rattle.netlist.specs.Reach.{Reads}
 use Rattle.retiming.specs.Leads.{asyncHere}
-use Rattle.retiming.specs.Rewrite.{Timing, wordFrom, oldOn, Place, Entry, Reg, root, passed, ownHere, memoryAt, registersOn, countOn, newTables, newTable, resetWord, copyOn, numberOf, along, retabled, newElement}
+use Rattle.retiming.specs.Rewrite.{Timing, wordFrom, oldOn, Place, Entry, Reg, root, passed, ownHere, memoryAt, registersOn, countOn, newTables, newTable, resetWord, copyOn, numberOf, along, newElement}
 use Rattle.retiming.specs.Gates.{Spot, Old, One, Chain, Shown, Pick, firstOn, lastOn, shownOn, spots, spotNumber, picked, gatedSource, spotNode, gatedWith}
 use Rattle.behaviour.specs.Exists.{rom-held}
 use Rattle.netlist.specs.Rank.{Settles, rounds, rounds-ranked}

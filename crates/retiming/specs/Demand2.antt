@@ -37,7 +37,7 @@ pub demand-2 : (s : List ℕ) → Bytes s → (N : Net) → decode s ≡ good N 
     → ((rewriteFile s out .answer ≡ Refused 11 65535) ⊎ ((v : ℕ) × (rewriteFile s out .answer ≡ Refused 12 v)))
     ↔ (PositiveClosed N ⊎ ((v : ℕ) × (v < size N) × PortOwes N v)))
 demand-2 s b N reads fine = (
-  λ st h es. ((runWord N (inputsAt N es), the-run-behaves N (wf .sourced) (settles N wf) (inputsAt N es)), runs-behave s N wf reads st h es),
+  λ st h es. ((runWord N (inputsAt N es), the-run-behaves N (wf .sourced) (settles N wf) (inputsAt N es)), runs-behave s N wf (record { reads = reads; fine = fine }) st h es),
   refused-debt-iff s b N reads fine,
 )
   where

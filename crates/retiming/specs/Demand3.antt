@@ -4,21 +4,21 @@
 -- fault that shows up only after a thousand clocks. A run is refused just where the words lent do not fit the ports (15), which are the same for both, and then it
 -- is no clock.
 -- `s` is the old file, `s′` the new one; `st` and `st′` are the states lent to the reset service, of any content; `es` is the list of runs. Assumes nothing.
-use mathlib.Core.Path.{_≡_, ap, _∙_}
+use mathlib.Core.Path.{_≡_, sym, ap, subst, _∙_}
 use mathlib.Core.Bool.{false}
 use mathlib.Core.List.{List, [], _∷_, _++_}
 use Prim.Native.Nat.{ℕ, _≤_}
 use lib.ListN.{length, drop}
 use Rattle.netlist.specs.declared.Answer.the-variants.{Accepted}
 use Rattle.netlist.specs.declared.Verdict.the-variants.{Fine}
-use Rattle.netlist.specs.File.{decode, fileVerdict}
+use Rattle.netlist.specs.File.{fileVerdict, ReadAs}
 use Rattle.codec.specs.Bytes.{Bytes}
 use Rattle.behaviour.specs.Service.{resetFile, Entry, runsFile}
 use Rattle.behaviour.specs.Entries.{stateBytes, entryFits, EachShows, stateAfter}
 use Rattle.behaviour.specs.FilesRun.{files-run}
 use Rattle.retiming.specs.Rewrite.{rewritten}
 use Rattle.retiming.specs.FileRewrite.{IsAccepted, rewrittenFile, rewriteFile, NoAsynchronous}
-use Rattle.retiming.specs.RewrittenFile.{Past13, past-13, accepted-written, netlists-alike, reads-new, passes-reader, no-asynchronous}
+use Rattle.retiming.specs.RewrittenFile.{Past13, past-13, accepted-written, netlists-alike, new-read, passes-reader, no-asynchronous}
 use Rattle.retiming.specs.declared.Mode.the-variants.{Plain}
 
 pub demand-3 : (s s′ : List ℕ) → Bytes s → IsAccepted s → s′ ≡ rewrittenFile s
@@ -46,5 +46,5 @@ demand-3 s s′ b a e =
       rw e (λ out. accepted-written Plain s out a),
       ap fileVerdict e ∙ passes-reader Plain s b t,
       rw e (no-asynchronous Plain s b t),
-      files-run s s′ (t .net) (rewritten (t .net)) (netlists-alike Plain s b t) (t .reads) (ap decode e ∙ reads-new Plain s b t),
+      files-run s s′ (t .net) (rewritten (t .net)) (netlists-alike Plain s b t) (t .file) (subst (λ (x : List ℕ). ReadAs x (rewritten (t .net))) (sym e) (new-read Plain s b t)),
     )

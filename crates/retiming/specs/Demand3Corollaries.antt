@@ -1,11 +1,11 @@
 -- What follows from demand 3: an operator who looks at the answers before choosing the next entry sees no difference either, and no state ever stops fitting.
 -- Assumes nothing.
-use mathlib.Core.Path.{_≡_, ap, _∙_}
+use mathlib.Core.Path.{_≡_, sym, subst}
 use mathlib.Core.Bool.{true}
 use mathlib.Core.List.{List}
 use Prim.Native.Nat.{ℕ}
 use lib.ListN.{length}
-use Rattle.netlist.specs.File.{decode}
+use Rattle.netlist.specs.File.{ReadAs}
 use Rattle.codec.specs.Bytes.{Bytes}
 use Rattle.behaviour.specs.Run.{resetState}
 use Rattle.behaviour.specs.Service.{bytesOf, resetFile, Entry, Shown, runsFile}
@@ -14,7 +14,7 @@ use Rattle.behaviour.specs.Only15.{reset-fitted, reset-accepted, states-fit}
 use Rattle.behaviour.specs.FilesAlike.{plays-alike}
 use Rattle.retiming.specs.Rewrite.{rewritten}
 use Rattle.retiming.specs.FileRewrite.{IsAccepted, rewrittenFile}
-use Rattle.retiming.specs.RewrittenFile.{Past13, past-13, netlists-alike, reads-new}
+use Rattle.retiming.specs.RewrittenFile.{Past13, past-13, netlists-alike, new-read}
 use Rattle.retiming.specs.Demand3.{demand-3}
 use Rattle.retiming.specs.declared.Mode.the-variants.{Plain}
 
@@ -32,8 +32,8 @@ module _ (s s′ : List ℕ) (b : Bytes s) (a : IsAccepted s) (e : s′ ≡ rewr
   demand-3-states es =
       let t : Past13 Plain s = past-13 Plain s a in
       let ok = netlists-alike Plain s b t in
-      let reads′ = ap decode e ∙ reads-new Plain s b t in (
-        rw (reset-accepted s (t .net) (ok .old) (t .reads) st h) (states-fit s (t .net) (ok .old) (t .reads) (bytesOf (resetState (t .net))) (reset-fitted (t .net) (ok .old)) es),
-        rw (reset-accepted s′ (rewritten (t .net)) (ok .new) reads′ st′ h′)
-            (states-fit s′ (rewritten (t .net)) (ok .new) reads′ (bytesOf (resetState (rewritten (t .net)))) (reset-fitted (rewritten (t .net)) (ok .new)) es),
+      let file′ = subst (λ (x : List ℕ). ReadAs x (rewritten (t .net))) (sym e) (new-read Plain s b t) in (
+        rw (reset-accepted s (t .net) (ok .old) (t .file) st h) (states-fit s (t .net) (ok .old) (t .file) (bytesOf (resetState (t .net))) (reset-fitted (t .net) (ok .old)) es),
+        rw (reset-accepted s′ (rewritten (t .net)) (ok .new) file′ st′ h′)
+            (states-fit s′ (rewritten (t .net)) (ok .new) file′ (bytesOf (resetState (rewritten (t .net)))) (reset-fitted (rewritten (t .net)) (ok .new)) es),
       )

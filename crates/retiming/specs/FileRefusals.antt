@@ -10,7 +10,7 @@ use lib.ListN.{length}
 use Rattle.lists.specs.BelowLaws.{true-or-false}
 use Rattle.netlist.specs.Net.{Net, size}
 use Rattle.netlist.specs.Checks.{WellFormed}
-use Rattle.netlist.specs.Places.{LowestNode}
+use Rattle.netlist.specs.Places.{LowestOf}
 use Rattle.netlist.specs.VerdictLaws.{reader-fine}
 use Rattle.netlist.specs.Verdict.{readerVerdict}
 use Rattle.netlist.specs.File.{good, decode}
@@ -57,7 +57,7 @@ module _ (s : List ℕ) (b : Bytes s) (N : Net) (reads : decode s ≡ good N) (f
   refused-11-iff = simp (refused-is 11 65535 (λ k. omega arith)) (refuses-11-iff N (wf .sourced))
 
   -- none has, and v is the lowest input port from which a walk has positive excess
-  pub refused-12-iff : (v : ℕ) → rewriteFile s out .answer ≡ Refused 12 v ↔ ((PositiveClosed N → ⊥) × LowestNode (size N) (PortOwes N) v)
+  pub refused-12-iff : (v : ℕ) → rewriteFile s out .answer ≡ Refused 12 v ↔ ((PositiveClosed N → ⊥) × LowestOf (size N) (PortOwes N) v)
   refused-12-iff v =
       let r = refused-is 12 v (λ k. omega arith) in
       let i = refuses-12-iff N (wf .sourced) v in (

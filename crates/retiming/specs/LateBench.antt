@@ -71,7 +71,7 @@ turnedLate = record {
       (7 ∷ 7 ∷ 6 ∷ 7 ∷ []);
 }
 
--- the loop of two asynchronous ROMs and one register with no output on it, beside an input port and an output port: the loop is left out
+-- the loop of two asynchronous ROMs and one register with no output on it, beside an input port and an output port: the loop is left out, and its table with it (T-06)
 idle : LateCase
 idle = record {
   file =
@@ -86,11 +86,34 @@ idle = record {
   clocks = clock (3 ∷ []) (3 ∷ []) ∷ clock (1 ∷ []) (1 ∷ []) ∷ [];
   gives = result
       (0x01 ∷ 0x00 ∷ 0x01 ∷ 0x01
-      ∷ 0x02 ∷ 0x00 ∷ 0x06 ∷ 0x01 ∷ 0x01 ∷ 0x00 ∷ 0x01 ∷ 0x00 ∷ 0x00
       ∷ 0x03 ∷ 0x00 ∷ 0x02 ∷ 0x00 ∷ 0x02
       ∷ 0x03 ∷ 0x00 ∷ 0x04 ∷ 0x01 ∷ 0x02 ∷ 0x00 ∷ 0x00
       ∷ 0x04 ∷ 0x00 ∷ 0x00 ∷ [])
       (0 ∷ 0 ∷ 7 ∷ 7 ∷ []);
+}
+
+-- a loop of one asynchronous ROM over table 0 and a register, with no output on it, beside a clocked ROM over table 1: table 0 goes, and table 1 has number 0 (T-06)
+numbered : LateCase
+numbered = record {
+  file =
+      0x01 ∷ 0x00 ∷ 0x01 ∷ 0x01
+      ∷ 0x02 ∷ 0x00 ∷ 0x06 ∷ 0x01 ∷ 0x01 ∷ 0x00 ∷ 0x00 ∷ 0x00 ∷ 0x01
+      ∷ 0x02 ∷ 0x00 ∷ 0x06 ∷ 0x01 ∷ 0x01 ∷ 0x00 ∷ 0x01 ∷ 0x00 ∷ 0x00
+      ∷ 0x03 ∷ 0x00 ∷ 0x05 ∷ 0x03 ∷ 0x01 ∷ 0x00 ∷ 0x01 ∷ 0x00
+      ∷ 0x03 ∷ 0x00 ∷ 0x06 ∷ 0x02 ∷ 0x01 ∷ 0x00 ∷ 0x00 ∷ 0x00 ∷ 0x00
+      ∷ 0x03 ∷ 0x00 ∷ 0x02 ∷ 0x00 ∷ 0x01
+      ∷ 0x03 ∷ 0x00 ∷ 0x07 ∷ 0x04 ∷ 0x01 ∷ 0x00 ∷ 0x02 ∷ 0x01 ∷ 0x00 ∷ 0x01
+      ∷ 0x03 ∷ 0x00 ∷ 0x04 ∷ 0x01 ∷ 0x01 ∷ 0x00 ∷ 0x03
+      ∷ 0x04 ∷ 0x00 ∷ 0x00 ∷ [];
+  clocks = clock (1 ∷ []) (1 ∷ []) ∷ clock (0 ∷ []) (0 ∷ []) ∷ clock (0 ∷ []) (1 ∷ []) ∷ [];
+  gives = result
+      (0x01 ∷ 0x00 ∷ 0x01 ∷ 0x01
+      ∷ 0x02 ∷ 0x00 ∷ 0x06 ∷ 0x01 ∷ 0x01 ∷ 0x00 ∷ 0x01 ∷ 0x00 ∷ 0x00
+      ∷ 0x03 ∷ 0x00 ∷ 0x02 ∷ 0x00 ∷ 0x01
+      ∷ 0x03 ∷ 0x00 ∷ 0x07 ∷ 0x04 ∷ 0x01 ∷ 0x00 ∷ 0x00 ∷ 0x00 ∷ 0x00 ∷ 0x01
+      ∷ 0x03 ∷ 0x00 ∷ 0x04 ∷ 0x01 ∷ 0x01 ∷ 0x00 ∷ 0x01
+      ∷ 0x04 ∷ 0x00 ∷ 0x00 ∷ [])
+      (0 ∷ 7 ∷ 7 ∷ 7 ∷ []);
 }
 
 -- document 01's two that stay refused: a walk from the input port to the output port, and a closed walk that reaches it, have positive excess
@@ -101,9 +124,9 @@ owingLate : LateCase
 owingLate = record { file = owing .file; clocks = []; gives = refusal 11 65535 }
 
 pub lateBench : List LateCase
-lateBench = turnedLate ∷ idle ∷ bareLate ∷ owingLate ∷ []
+lateBench = turnedLate ∷ idle ∷ numbered ∷ bareLate ∷ owingLate ∷ []
 
 -- THE THEOREM
 pub late-bench-holds : map lateFound lateBench ≡ map lateExpected lateBench
-unfolding computing lateLeadsIn outputWords foundBy lateFound lateExpected clock refused bare turned owing turnedLate idle bareLate owingLate lateBench
+unfolding computing lateLeadsIn outputWords foundBy lateFound lateExpected clock refused bare turned owing turnedLate idle numbered bareLate owingLate lateBench
 late-bench-holds = refl

@@ -2,14 +2,14 @@
 -- reader and has no asynchronous ROM, and shows the old outputs from the first clock on: start both from reset and give both the same runs, as many as you like;
 -- every answer and every output byte is the same. A run is refused just where the words lent do not fit the ports (15), and then it is no clock.
 -- `s` is the old file, `s′` the new one; `st` and `st′` are the states lent to the reset service, of any content; `es` is the list of runs. Assumes nothing.
-use mathlib.Core.Path.{_≡_, ap, _∙_}
+use mathlib.Core.Path.{_≡_, sym, ap, subst, _∙_}
 use mathlib.Core.Bool.{false}
 use mathlib.Core.List.{List, [], _∷_, _++_}
 use Prim.Native.Nat.{ℕ, _≤_}
 use lib.ListN.{length, drop}
 use Rattle.netlist.specs.declared.Answer.the-variants.{Accepted}
 use Rattle.netlist.specs.declared.Verdict.the-variants.{Fine}
-use Rattle.netlist.specs.File.{decode, fileVerdict}
+use Rattle.netlist.specs.File.{fileVerdict, ReadAs}
 use Rattle.codec.specs.Bytes.{Bytes}
 use Rattle.behaviour.specs.Service.{resetFile, Entry, runsFile}
 use Rattle.behaviour.specs.Entries.{stateBytes, entryFits, EachShows, stateAfter}
@@ -17,7 +17,7 @@ use Rattle.behaviour.specs.FilesRun.{files-run}
 use Rattle.retiming.specs.FileRewrite.{NoAsynchronous}
 use Rattle.retiming.specs.LateRewrite.{lateStarted}
 use Rattle.retiming.specs.LateFile.{IsLateAccepted, lateFile, lateRewrite}
-use Rattle.retiming.specs.RewrittenFile.{Past13, past-13, accepted-written, netlists-alike, reads-new, passes-reader, no-asynchronous}
+use Rattle.retiming.specs.RewrittenFile.{Past13, past-13, accepted-written, netlists-alike, new-read, passes-reader, no-asynchronous}
 use Rattle.retiming.specs.declared.Mode.the-variants.{Late}
 
 pub late-start : (s s′ : List ℕ) → Bytes s → IsLateAccepted s → s′ ≡ lateFile s
@@ -45,5 +45,5 @@ late-start s s′ b a e =
       rw e (λ out. accepted-written Late s out a),
       ap fileVerdict e ∙ passes-reader Late s b t,
       rw e (no-asynchronous Late s b t),
-      files-run s s′ (t .net) (lateStarted (t .net)) (netlists-alike Late s b t) (t .reads) (ap decode e ∙ reads-new Late s b t),
+      files-run s s′ (t .net) (lateStarted (t .net)) (netlists-alike Late s b t) (t .file) (subst (λ (x : List ℕ). ReadAs x (lateStarted (t .net))) (sym e) (new-read Late s b t)),
     )

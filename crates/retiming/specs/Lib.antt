@@ -37,6 +37,7 @@ pub mod Standing
 pub mod Passes
 pub mod Records
 pub mod Retimed
+pub mod TablesKept
 pub mod LeadsServe
 pub mod ResetWords
 pub mod LateRetimed

@@ -1,5 +1,5 @@
 -- What holds of a mode where its 11 and 12 do not apply: its timing suits the netlist, and its new netlist is the one over that timing. Assumes nothing.
-use mathlib.Core.Path.{_≡_, refl, sym, ap, _∙_}
+use mathlib.Core.Path.{_≡_, refl, sym, ap, subst, _∙_}
 use mathlib.Core.Logic.{⊎-elim}
 use mathlib.Core.Bool.{true, false}
 use mathlib.Core.List.{[], _∷_}
@@ -9,7 +9,10 @@ use lib.Dec.{ltb, lit≤}
 use borrow.Author.Tests.{lt-ltb}
 use Rattle.lists.specs.BelowLaws.{true-or-false, countBelow-le}
 use Rattle.netlist.specs.Net.{Net, size, elementAt, isInput, isAsync}
-use Rattle.netlist.specs.Checks.{WellFormed}
+use Rattle.netlist.specs.Checks.{WellFormed, TablesRead}
+use Rattle.netlist.specs.Trim.{trimmed}
+use Rattle.netlist.specs.Trimmed.{size-trimmed}
+use Rattle.netlist.specs.NothingTrimmed.{trimmed-same}
 use Rattle.netlist.specs.declared.Verdict.the-variants.{Fine}
 use Rattle.netlist.specs.Verdict.{atLowest, ofWhole, verdict}
 use Rattle.behaviour.specs.Run.{zeroWord}
@@ -18,17 +21,18 @@ use Rattle.retiming.specs.declared.Mode.the-variants.{Plain, Late}
 use Rattle.retiming.specs.Leads.{lead, portDebt}
 use Rattle.retiming.specs.AtMostRoms.{romCount, lead-at-most-roms, late-at-most-roms}
 use Rattle.retiming.specs.LateLeads.{lateEnds, origin, leadTo, portDebtTo}
-use Rattle.retiming.specs.Rewrite.{Timing, timingBy, timing}
+use Rattle.retiming.specs.Rewrite.{Timing, timingBy, timing, rewritten}
 use Rattle.retiming.specs.LateRewrite.{timingToBy, timingTo, lateTiming, lateStarted}
 use Rattle.retiming.specs.Gates.{gatedWith}
 use Rattle.retiming.specs.Debt.{grown, debtStages, debtVerdict}
 use Rattle.retiming.specs.LateDebt.{lateStages, lateVerdict}
 use Rattle.retiming.specs.Candidate.{Retimes}
 use Rattle.retiming.specs.Retimed.{retimes, rewritten-is}
+use Rattle.retiming.specs.TablesKept.{rewritten-read}
 use Rattle.retiming.specs.LateRetimed.{late-retimes}
 use Rattle.retiming.specs.ThreeChecks.{says-fine-only}
 use Rattle.retiming.specs.PastDebt.{no-port}
-use Rattle.retiming.specs.Modes.{modeClosed, modeOwing, modeTiming, modeNet, modeVerdict}
+use Rattle.retiming.specs.Modes.{modeClosed, modeOwing, modeTiming, modeTrimmed, modeNet, modeVerdict}
 
 -- a timing that code can go by: it serves the netlist, its numbers are small, and which nodes stay is told by their leads
 pub record Suits (N : Net) (f : Timing) : Type 0 where
@@ -37,6 +41,11 @@ pub record Suits (N : Net) (f : Timing) : Type 0 where
   pub few : (v : ℕ) → v < size N → f .lead v ≤ 2050
   pub keeps-all : f .origin ≡ 0 → (v : ℕ) → f .keeps v ≡ true
   pub keeps-late : 0 < f .origin → (v : ℕ) → f .keeps v ≡ ltb 0 (f .lead v)
+
+-- what is left out are tables
+pub mode-size : (mode : Mode) (M : Net) → size (modeTrimmed mode M) ≡ size M
+mode-size Plain M = refl
+mode-size Late M = size-trimmed M
 
 -- 11, 12 and 13 in order, of either mode
 pub mode-stages : (mode : Mode) (N : Net)
@@ -96,10 +105,21 @@ module _ (N : Net) (wf : WellFormed N) where
   mode-suits Plain debtless none = record { retimes = retimes N wf debtless (no-port (size N) (modeOwing Plain N) none); low = plain-low; few = plain-few debtless; keeps-all = λ z. plain-keeps; keeps-late = λ o. absurd (omega (arith, plain-origin)) }
   mode-suits Late debtless none = record { retimes = late-retimes N wf debtless (no-port (size N) (modeOwing Late N) none); low = late-low; few = late-few debtless; keeps-all = λ z. absurd (omega (arith, late-origin)); keeps-late = λ o. late-keeps }
 
-  pub mode-net : (mode : Mode) → modeClosed mode N ≡ false → ((v : ℕ) → v < size N → modeOwing mode N v ≡ false) → gatedWith N (modeTiming mode N) (zeroWord N) ≡ modeNet mode N
+  pub mode-net : (mode : Mode) → modeClosed mode N ≡ false → ((v : ℕ) → v < size N → modeOwing mode N v ≡ false)
+      → modeTrimmed mode (gatedWith N (modeTiming mode N) (zeroWord N)) ≡ modeNet mode N
   unfolding lateStarted portDebt
   mode-net Plain debtless none = rewritten-is N wf debtless (no-port (size N) (modeOwing Plain N) none)
   mode-net Late debtless none = refl
+
+  -- nothing else is left out of either, where the old netlist reads its tables
+  pub mode-left : (mode : Mode) → modeClosed mode N ≡ false → ((v : ℕ) → v < size N → modeOwing mode N v ≡ false) → TablesRead N
+      → WellFormed (gatedWith N (modeTiming mode N) (zeroWord N)) → trimmed (gatedWith N (modeTiming mode N) (zeroWord N)) ≡ modeNet mode N
+  unfolding lateStarted portDebt
+  mode-left Plain debtless none read new =
+      let portless = no-port (size N) (modeOwing Plain N) none in
+      let is = rewritten-is N wf debtless portless in
+      ap trimmed is ∙ trimmed-same (rewritten N) (subst WellFormed is new .has-table) (rewritten-read N wf debtless portless read)
+  mode-left Late debtless none read new = refl
 
 -- by the mode's name
 module _ (N : Net) {mode : Mode} where

@@ -3,6 +3,7 @@ use mathlib.Core.Bool.{Bool}
 use mathlib.Core.List.{List}
 use Prim.Native.Nat.{ℕ}
 use Rattle.netlist.specs.Net.{Net}
+use Rattle.netlist.specs.Trim.{trimmed}
 use Rattle.netlist.specs.declared.Verdict.{Verdict}
 use Rattle.retiming.specs.declared.Mode.{Mode}
 use Rattle.retiming.specs.declared.Mode.the-variants.{Plain, Late}
@@ -30,11 +31,17 @@ abbrev pub modeOwing : Mode → Net → ℕ → Bool
 modeOwing Plain N = owingPort N
 modeOwing Late N = owingPortTo N (lateEnds N)
 
--- when the nodes run, and the new netlist
+-- when the nodes run
 abbrev pub modeTiming : Mode → Net → Timing
 modeTiming Plain N = timing N
 modeTiming Late N = lateTiming N
 
+-- what it leaves out of its tables: document 01's rewriting nothing, since all that the old one read stays read
+abbrev pub modeTrimmed : Mode → Net → Net
+modeTrimmed Plain M = M
+modeTrimmed Late M = trimmed M
+
+-- the new netlist
 abbrev pub modeNet : Mode → Net → Net
 modeNet Plain N = rewritten N
 modeNet Late N = lateStarted N

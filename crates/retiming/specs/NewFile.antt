@@ -8,12 +8,11 @@ use native.Mathlib.Omega.{arith}
 use lib.ListN.{length}
 use Rattle.netlist.specs.declared.Element.{Element}
 use Rattle.netlist.specs.declared.Element.the-variants.{Input, Output, Register, Async, Clocked, Gate}
-use Rattle.netlist.specs.declared.Verdict.the-variants.{Fine}
 use Rattle.netlist.specs.Net.{Net, size, elementAt, isAsync}
 use Rattle.netlist.specs.NodeField.{kindOf}
-use Rattle.netlist.specs.Checks.{WellFormed}
+use Rattle.netlist.specs.Checks.{WellFormed, TablesRead}
 use Rattle.netlist.specs.VerdictLaws.{fine-reader}
-use Rattle.netlist.specs.File.{good, decode, judged, fileVerdict, encode}
+use Rattle.netlist.specs.File.{good, decode, ReadAs, encode}
 use Rattle.codec.specs.Bytes.{Bytes}
 use Rattle.codec.specs.Within.{Within}
 use Rattle.codec.specs.EncodeLength.{length-encode}
@@ -41,10 +40,9 @@ module _ (file : List ℕ) (M : Net) (is : file ≡ encode M) (within : Within M
   pub file-length : length file ≤ 45175
   file-length = rw is (length-encode M within)
 
-  -- it passes the reader: 1 to 10
-  pub file-passes : WellFormed M → fileVerdict file ≡ Fine
-  unfolding fileVerdict
-  file-passes wf = ap judged reads-file ∙ fine-reader M wf
+  -- the reader takes it
+  pub file-read : WellFormed M → TablesRead M → ReadAs file M
+  file-read wf read = record { reads = reads-file; fine = fine-reader M wf read }
 
   pub file-clocked : ((v : ℕ) → v < size M → isAsync (elementAt M v) ≡ false) → NoAsynchronous file
   unfolding NoAsynchronous

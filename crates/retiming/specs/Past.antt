@@ -6,7 +6,7 @@ use Prim.Native.Nat.{ℕ}
 use Rattle.netlist.specs.Net.{Net}
 use Rattle.netlist.specs.Verdict.{onward, readerVerdict}
 use Rattle.netlist.specs.VerdictLaws.{refuses-not}
-use Rattle.netlist.specs.File.{Decoded, bad, good, decode, decodedNet, judged, fileVerdict}
+use Rattle.netlist.specs.File.{Decoded, bad, good, decode, decodedNet, judged, fileVerdict, ReadAs}
 use Rattle.netlist.specs.declared.Verdict.{Verdict}
 use Rattle.netlist.specs.declared.Verdict.the-variants.{Fine, Refuses}
 
@@ -16,8 +16,7 @@ module _ (debts : Net → Verdict) (s : List ℕ) where
 
   pub record Past : Type 0 where
     pub net : Net
-    pub reads : decode s ≡ good net
-    pub fine : readerVerdict net ≡ Fine
+    pub file : ReadAs s net
     pub debtless : debts net ≡ Fine
 
   pub past : judgedBy ≡ Fine → Past
@@ -25,7 +24,7 @@ module _ (debts : Net → Verdict) (s : List ℕ) where
   past h = by-fields (decode s) refl h
     where
       by-verdict : (N : Net) → decode s ≡ good N → (v : Verdict) → readerVerdict N ≡ v → onward v (debts N) ≡ Fine → Past
-      by-verdict N e Fine f d = record { net = N; reads = e; fine = f; debtless = d }
+      by-verdict N e Fine f d = record { net = N; file = record { reads = e; fine = f }; debtless = d }
       by-verdict N e (Refuses k p) f d = absurd (refuses-not d)
 
       by-fields : (d : Decoded) → decode s ≡ d → onward (judged d) (debts (decodedNet d)) ≡ Fine → Past

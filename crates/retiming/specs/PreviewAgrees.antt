@@ -23,10 +23,10 @@ use Rattle.retiming.specs.declared.Preview.the-variants.{Fits, Refused}
 use Rattle.retiming.specs.Rewrite.{rewritten}
 use Rattle.retiming.specs.FileRewrite.{IsAccepted, rewrittenFile, rewriteFile}
 use Rattle.retiming.specs.PastDebt.{no-debt}
-use Rattle.retiming.specs.RewrittenFile.{Past13, past-13, netlists-alike, reads-new}
+use Rattle.retiming.specs.RewrittenFile.{Past13, past-13, netlists-alike, new-read}
 use Rattle.retiming.specs.Preview.{measured, sizeOf, sourceBytes, previewFile}
 use Rattle.retiming.specs.LargestLead.{LargestOfAll, largest-of-all}
-use Rattle.retiming.specs.PreviewLaws.{preview-refused, fits-past, fits-size, at-most-13, refused-written, fits-written, clocked-kind-4, register-kind-2, length-source-bytes}
+use Rattle.retiming.specs.PreviewLaws.{preview-refused, fits-past, fits-size, not-14, refused-written, fits-written, clocked-kind-4, register-kind-2, length-source-bytes}
 use Rattle.retiming.specs.declared.Mode.the-variants.{Plain}
 
 -- the netlist that was read has so many nodes of kind 4 and so many of kind 2
@@ -49,7 +49,7 @@ Agrees s l (Fits z) =
     ((out : List ℕ) → z .length ≤ length out → (rewriteFile s out .answer ≡ Accepted (z .length)) × Counted z (decode (take (z .length) (rewriteFile s out .out))))
     × LeadIs z (decode s)
 Agrees s l (Refused k p) =
-    ((k ≤ 13) × ((out : List ℕ) → rewriteFile s out ≡ record { answer = answer.Refused k p; out = out }))
+    ((k ≡ 14 → ⊥) × ((out : List ℕ) → rewriteFile s out ≡ record { answer = answer.Refused k p; out = out }))
     ⊎ ((k ≡ 14) × (p ≡ 65535) × IsAccepted s × TooShort l (decode (rewrittenFile s)))
 
 pub preview-agrees : (s l : List ℕ) → Bytes s → Agrees s l (previewFile s l .preview)
@@ -64,12 +64,12 @@ preview-agrees s l b = by-preview (previewFile s l .preview) refl
           λ out long.
               let w = fits-written s l b e out long in
               (w .0, rw (w .1) (clocked-kind-4 M ∙ sym (ap (λ (y : Size). y .clocked) q), register-kind-2 M ∙ sym (ap (λ (y : Size). y .registers) q))),
-          rw (t .reads) (subst (LargestOfAll (t .net)) (sym (ap (λ (y : Size). y .lead) q)) (largest-of-all (t .net) (netlists-alike Plain s b t .old .sourced) (no-debt (t .net) (t .debtless) .0))),
+          rw (t .file .reads) (subst (LargestOfAll (t .net)) (sym (ap (λ (y : Size). y .lead) q)) (largest-of-all (t .net) (netlists-alike Plain s b t .old .sourced) (no-debt (t .net) (t .debtless) .0))),
         )
     by-preview (Refused k p) e =
-        ⊎-elim (λ v. inl (at-most-13 s v, refused-written s v))
+        ⊎-elim (λ v. inl (not-14 s v, refused-written s v))
         (λ (a, n, q, short).
         let t : Past13 Plain s = past-13 Plain s a in
-        let e : length (sourceBytes (rewritten (decodedNet (decode s)))) ≡ length (sourceBytes (rewritten (t .net))) = ap (λ (d : Decoded). length (sourceBytes (rewritten (decodedNet d)))) (t .reads) in
-        inr (n, q, a, rw (reads-new Plain s b t) (omega (arith, length-source-bytes (rewritten (t .net))))))
+        let e : length (sourceBytes (rewritten (decodedNet (decode s)))) ≡ length (sourceBytes (rewritten (t .net))) = ap (λ (d : Decoded). length (sourceBytes (rewritten (decodedNet d)))) (t .file .reads) in
+        inr (n, q, a, rw (new-read Plain s b t .reads) (omega (arith, length-source-bytes (rewritten (t .net))))))
         (preview-refused s l e)

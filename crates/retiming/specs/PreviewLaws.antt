@@ -7,7 +7,7 @@ use Prim.Native.Nat.{ℕ, _*_, _≤_, _<_}
 use native.Mathlib.Omega.{arith}
 use lib.ListN.{length, take, drop}
 use lib.Seq.{take-append-seam}
-use lib.Dec.{eqb, lit≤}
+use lib.Dec.{eqb}
 use Rattle.lists.specs.BelowLaws.{countBelow-le}
 use Rattle.netlist.specs.Net.{Net, size, elementAt, isRegister, isClocked, countOf}
 use Rattle.netlist.specs.NodeField.{kindOf}
@@ -29,7 +29,7 @@ use Rattle.retiming.specs.Debt.{debtStages, debtVerdict}
 use Rattle.retiming.specs.Rewrite.{rewritten}
 use Rattle.retiming.specs.FileRewrite.{rewriterVerdict, IsAccepted, rewrittenFile, outVerdict, Rewrote, writtenAfter, rewriteFile}
 use Rattle.retiming.specs.OutLaws.{out-long, out-fine, out-refuses}
-use Rattle.retiming.specs.RewrittenFile.{Past13, past-13, file-is, netlists-alike, accepted-written, reads-new, new-length}
+use Rattle.retiming.specs.RewrittenFile.{Past13, past-13, file-is, netlists-alike, accepted-written, new-read, new-length}
 use Rattle.retiming.specs.BySource.{bySource}
 use Rattle.retiming.specs.BySourceLaws.{length-by-source}
 use Rattle.retiming.specs.Preview.{measured, sizeOf, previewBy, sourceBytes, previewFile}
@@ -75,14 +75,14 @@ module _ (s l : List ℕ) {z : Size} (e : previewFile s l .preview ≡ Fits z) w
   fits-past = past-13 Plain s fits-accepted
 
   pub fits-size : z ≡ sizeOf (fits-past .net)
-  fits-size = fits .1 ∙ ap (λ (d : Decoded). sizeOf (decodedNet d)) (fits-past .reads)
+  fits-size = fits .1 ∙ ap (λ (d : Decoded). sizeOf (decodedNet d)) (fits-past .file .reads)
 
   fits-length : z .length ≡ length (rewrittenFile s)
   unfolding sizeOf measured
   fits-length = ap (λ (y : Size). y .length) fits-size ∙ sym (ap (λ (b : List ℕ). length b) (file-is Plain s fits-past))
 
   fits-bytes : bytes s ≡ sourceBytes (rewritten (fits-past .net))
-  fits-bytes = ap (λ (d : Decoded). sourceBytes (rewritten (decodedNet d))) (fits-past .reads)
+  fits-bytes = ap (λ (d : Decoded). sourceBytes (rewritten (decodedNet d))) (fits-past .file .reads)
 
   -- the numbers have room in the list and stand there, and its other bytes stay
   pub fits-room : 2 * z .sources ≤ length l
@@ -97,27 +97,27 @@ module _ (s l : List ℕ) {z : Size} (e : previewFile s l .preview ≡ Fits z) w
       ap (λ (v : Verdict). given v (bytes s ++ drop (length (bytes s)) l) l) (fits .0)
       ∙ ap (λ (b : List ℕ). b ++ drop (length b) l) fits-bytes
 
--- ---- 1 to 13 and no other number
+-- ---- none of 1 to 13, nor 17 among them, is 14
 
-abbrev AtMost13 : ℕ → Type 0
-AtMost13 k = k ≤ 13
+abbrev Not14 : ℕ → Type 0
+Not14 k = k ≡ 14 → ⊥
 
-from-6 : (N : Net) → SaysEach AtMost13 (readerStages N)
+from-6 : (N : Net) → SaysEach Not14 (readerStages N)
 unfolding readerStages
-from-6 N = (lit≤ tt, (lit≤ tt, (lit≤ tt, (lit≤ tt, (lit≤ tt, tt)))))
+from-6 N = (λ e. omega arith, (λ e. omega arith, (λ e. omega arith, (λ e. omega arith, (λ e. omega arith, (λ e. omega arith, tt))))))
 
-from-11 : (N : Net) → SaysEach AtMost13 (debtStages N)
+from-11 : (N : Net) → SaysEach Not14 (debtStages N)
 unfolding debtStages
-from-11 N = (lit≤ tt, (lit≤ tt, (lit≤ tt, tt)))
+from-11 N = (λ e. omega arith, (λ e. omega arith, (λ e. omega arith, tt)))
 
-pub at-most-13 : (s : List ℕ) {k p : ℕ} → rewriterVerdict s ≡ Refuses k p → k ≤ 13
+pub not-14 : (s : List ℕ) {k p : ℕ} → rewriterVerdict s ≡ Refuses k p → k ≡ 14 → ⊥
 unfolding rewriterVerdict debtVerdict
-at-most-13 s e =
+not-14 s e =
     let N = decodedNet (decode s) in
-    subst (Says AtMost13) e
-    (says-onward AtMost13 (fileVerdict s) (debtVerdict N)
-    (says-file AtMost13 (lit≤ tt) (lit≤ tt) (lit≤ tt) (lit≤ tt) (lit≤ tt) from-6 s)
-    (says-verdict AtMost13 (debtStages N) (from-11 N)))
+    subst (Says Not14) e
+    (says-onward Not14 (fileVerdict s) (debtVerdict N)
+    (says-file Not14 (λ e. omega arith) (λ e. omega arith) (λ e. omega arith) (λ e. omega arith) (λ e. omega arith) from-6 s)
+    (says-verdict Not14 (debtStages N) (from-11 N)))
 
 -- ---- the rewriting that it speaks of
 
@@ -141,7 +141,7 @@ module _ (s l : List ℕ) (b : Bytes s) {z : Size} (e : previewFile s l .preview
         ap (λ (r : Rewrote). decode (take (z .length) (r .out))) w
             ∙ ap (λ (k : ℕ). decode (take k (f ++ drop (length f) out))) n
             ∙ ap decode (take-append-seam f (drop (length f) out))
-            ∙ reads-new Plain s b (fits-past s l e),
+            ∙ new-read Plain s b (fits-past s l e) .reads,
       )
 
 -- a class by its number in the file
@@ -179,6 +179,6 @@ unfolding previewFile
 always-enough s l b a long =
     let t : Past13 Plain s = past-13 Plain s a in
     let M = rewritten (t .net) in
-    let same : length (bytes s) ≡ length (sourceBytes M) = ap (λ (d : Decoded). length (sourceBytes (rewritten (decodedNet d)))) (t .reads) in
+    let same : length (bytes s) ≡ length (sourceBytes M) = ap (λ (d : Decoded). length (sourceBytes (rewritten (decodedNet d)))) (t .file .reads) in
     let few : length (bytes s) ≤ length l = omega (arith, length-source-bytes M, countBelow-le (λ v. not (eqb (kindOf (elementAt M v)) 2)) (size M), netlists-alike Plain s b t .new .fields .bounds .nodes) in
     ap₂ (λ (v w : Verdict). previewBy (onward v w) (sizeOf (decodedNet (decode s)))) a (out-long (bytes s) l few)

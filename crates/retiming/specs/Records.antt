@@ -1,5 +1,5 @@
 -- A file can hold the rewritten netlist: each of its nodes is a record of the format, source numbers of two bytes, table numbers of one. Assumes nothing.
-use mathlib.Core.Path.{_≡_, refl}
+use mathlib.Core.Path.{_≡_, refl, sym, subst}
 use mathlib.Core.Logic.{⊎-elim}
 use mathlib.Core.List.{List, [], _∷_}
 use Prim.Native.Nat.{ℕ, zero, suc, _≤_, _<_}
@@ -14,6 +14,9 @@ use Rattle.netlist.specs.declared.Node.{Node}
 use Rattle.lists.specs.BelowLaws.{lt-or-le}
 use Rattle.netlist.specs.Net.{Table, Net, size, nodeAt, elementAt, source, operands, tableOf, Sourced}
 use Rattle.netlist.specs.Checks.{HasTable, WellFormed}
+use Rattle.netlist.specs.Trim.{overTable, renumbered, trimmed}
+use Rattle.netlist.specs.Trimmed.{inside-trimmed, node-trimmed}
+use Rattle.netlist.specs.TrimmedRules.{blind-operands}
 use Rattle.codec.specs.Within.{Within}
 use Rattle.retiming.specs.Rewrite.{Timing, Entry, Reg, newTable, newElement}
 use Rattle.retiming.specs.Gates.{Spot, Old, One, Chain, Shown, Pick, gatedSource, spotNode, gatedWith}
@@ -102,6 +105,25 @@ pub shaped-new : (N : Net) (f : Timing) (Z : ℕ → ℕ → ℕ) → Retimes N 
 shaped-new N f Z ok w =
     at-node N f Z ok (λ i sp n. Shaped n)
     (λ i k s. record { three = three-sources N f Z _; unread = unread-spot N f Z _; lowest = lowest-spot N f Z w _ s })
+
+-- over tables that were numbered anew they look the same
+part-over : (k : ℕ) (e : Element) (b : ℕ) → overTable k e ≡ Gate (Part b) → e ≡ Gate (Part b)
+part-over k Input b h = h
+part-over k Output b h = h
+part-over k (Register r) b h = h
+part-over k (Async m) b h = cc
+part-over k (Clocked m r) b h = cc
+part-over k (Gate o) b h = h
+
+pub shaped-trimmed : (M : Net) → AllShaped M → AllShaped (trimmed M)
+unfolding renumbered
+shaped-trimmed M shaped v h =
+    let x = shaped v (inside-trimmed M h) in
+    subst Shaped (sym (node-trimmed M v)) (record {
+      three = x .three;
+      unread = λ p q. x .unread p (subst (λ (n : ℕ). n ≤ p) (blind-operands .same _ (nodeAt M v .element)) q);
+      lowest = λ b e. x .lowest b (part-over _ (nodeAt M v .element) b e);
+    })
 
 -- at most 16 tables, so a number is one byte
 table-byte : (ts : List Table) → length ts ≤ 16 → (e : Element) → HasTable ts e → tableOf e < 256

@@ -15,7 +15,7 @@ use Rattle.codec.specs.Bytes.{Bytes}
 use Rattle.codec.specs.FieldOffsets.{Running, running}
 use Rattle.retiming.specs.Rewrite.{rewritten}
 use Rattle.retiming.specs.FileRewrite.{IsAccepted, rewrittenFile, Rewrote, rewriteFile}
-use Rattle.retiming.specs.RewrittenFile.{past-13, accepted-written, file-is, reads-new}
+use Rattle.retiming.specs.RewrittenFile.{past-13, accepted-written, file-is, new-read}
 use Rattle.retiming.specs.declared.Mode.the-variants.{Plain}
 
 -- the netlist that is read from the rewritten file
@@ -27,6 +27,6 @@ pub running-offset : (s out : List ℕ) → Bytes s → IsAccepted s → length 
 running-offset s out b a long =
     let t = past-13 Plain s a in
     let N : Net = rewritten (t .net) in
-    let is : newNet s ≡ N = ap decodedNet (reads-new Plain s b t) in
+    let is : newNet s ≡ N = ap decodedNet (new-read Plain s b t .reads) in
     let runs : Running (newNet s) (rewrittenFile s) = subst (λ (M : Net). Running M (rewrittenFile s)) (sym is) (subst (Running N) (sym (file-is Plain s t)) (running N)) in
     (runs, ap (λ (r : Rewrote). r .answer) (accepted-written Plain s out a long) ∙ ap Accepted (sym (runs .last)))

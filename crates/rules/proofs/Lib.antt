@@ -1,3 +1,4 @@
 pub mod SourceLaws
 pub mod WidthLaws
 pub mod ReaderLaws
+pub mod TableLaws

@@ -26,11 +26,17 @@ use Rattle.rules.specs.Marks.{Marks, Marked}
 pub marked-none : (sources : ℕ → ℕ) (l : List ℕ) → Marked sources 0 l l
 marked-none sources l = record { kept = refl; each = λ u h. refl }
 
-chosen : (q a : Bool) (x : ℕ) → q ≡ true → 1 ≡ cond (q || a) 1 x
-chosen q a x e = sym (ap (λ (b : Bool). cond (b || a) 1 x) e)
+-- a mark more
+pub mark-at : (l : List ℕ) (k u : ℕ) → u < length l → getD (set l k 1) u 0 ≡ cond (eqb k u) 1 (getD l u 0)
+mark-at l k u h =
+    ⊎-elim
+    (λ t. ap (λ (j : ℕ). getD (set l j 1) u 0) (eqb-true t) ∙ getD-set-same l u 1 0 h ∙ sym (ap (λ (b : Bool). cond b 1 (getD l u 0)) t))
+    (λ t. getD-set-other l k u 1 0 (λ e. eqb-differ t (sym e)) ∙ sym (ap (λ (b : Bool). cond b 1 (getD l u 0)) t))
+    (true-or-false (eqb k u))
 
-passed : (q a : Bool) (x : ℕ) → q ≡ false → cond a 1 x ≡ cond (q || a) 1 x
-passed q a x e = sym (ap (λ (b : Bool). cond (b || a) 1 x) e)
+either : (q a : Bool) (x : ℕ) → cond q 1 (cond a 1 x) ≡ cond (q || a) 1 x
+either true a x = refl
+either false a x = refl
 
 -- one source more
 pub marked-more : {sources : ℕ → ℕ} {before after : List ℕ} {p : ℕ} → Marked sources p before after → Marked sources (p + 1) before (set after (sources p) 1)
@@ -40,11 +46,7 @@ marked-more {sources} {before} {after} {p} m = record {
 }
   where
     step : (u : ℕ) → u < length before → getD (set after (sources p) 1) u 0 ≡ cond (anyBelow (suc p) (λ i. eqb (sources i) u)) 1 (getD before u 0)
-    step u h =
-        ⊎-elim
-        (λ t. ap (λ (k : ℕ). getD (set after k 1) u 0) (eqb-true t) ∙ getD-set-same after u 1 0 (omega (arith, m .kept)) ∙ chosen _ (anyBelow p (λ i. eqb (sources i) u)) (getD before u 0) t)
-        (λ t. getD-set-other after (sources p) u 1 0 (λ e. eqb-differ t (sym e)) ∙ m .each u h ∙ passed _ (anyBelow p (λ i. eqb (sources i) u)) (getD before u 0) t)
-        (true-or-false (eqb (sources p) u))
+    step u h = mark-at after (sources p) u (omega (arith, m .kept)) ∙ ap (cond (eqb (sources p) u) 1) (m .each u h) ∙ either (eqb (sources p) u) (anyBelow p (λ i. eqb (sources i) u)) (getD before u 0)
 
 -- a source marked again
 marked-again : {sources : ℕ → ℕ} {before after : List ℕ} {p : ℕ} → Marked sources p before after → (j : ℕ) → j < p → Marked sources p before (set after (sources j) 1)
@@ -81,7 +83,7 @@ module _ (sources : ℕ → ℕ) (before : List ℕ) {n second third : ℕ} (a :
       let told : z ≡ set (set (set before (sources 0) 1) (sources second) 1) (sources third) 1 = cc in
       subst (λ (l : List ℕ). Marked sources n before l) (sym told) three-at
 
-one-of : (q a : Bool) → cond q 1 (one a) ≡ one (q || a)
+pub one-of : (q a : Bool) → cond q 1 (one a) ≡ one (q || a)
 one-of true a = refl
 one-of false a = refl
 

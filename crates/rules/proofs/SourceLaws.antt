@@ -12,7 +12,7 @@ use Rattle.netlist.specs.Net.{Table, Net, elementAt, source, operands, isMemory
 use Rattle.netlist.specs.Verdict.{tableThere, noSource, badSource}
 use Rattle.netlist.specs.declared.Element.{Element}
 use Rattle.netlist.specs.declared.Element.the-variants.{Input, Output, Register, Async, Clocked, Gate}
-use Rattle.circuit.specs.Code.{codeOf, tableOr}
+use Rattle.circuit.specs.Code.{codeOf}
 
 -- there is no table to look for
 pub no-rom : (ts : List Table) (e : Element) → (codeOf e ≡ 3 → ⊥) → (codeOf e ≡ 4 → ⊥) → false ≡ not (tableThere ts e)
@@ -31,14 +31,6 @@ rom-code (Register r) l h = absurd (omega arith)
 rom-code (Async m) l h = refl
 rom-code (Clocked m r) l h = refl
 rom-code (Gate o) l h = absurd (omega arith)
-
-pub rom-table : (e : Element) → isMemory e ≡ true → {k : ℕ} → k ≡ tableOr k e → k ≡ tableOf e
-rom-table Input m q = absurd (false≢true m)
-rom-table Output m q = absurd (false≢true m)
-rom-table (Register r) m q = absurd (false≢true m)
-rom-table (Async x) m q = q
-rom-table (Clocked x r) m q = q
-rom-table (Gate o) m q = absurd (false≢true m)
 
 -- a ROM's table is there where its number is one of the tables'
 rom-there : (ts : List Table) (e : Element) → isMemory e ≡ true → ltb (tableOf e) (length ts) ≡ tableThere ts e

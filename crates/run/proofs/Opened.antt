@@ -9,7 +9,7 @@ use Rattle.netlist.specs.declared.Verdict.{Verdict}
 use Rattle.netlist.specs.declared.Verdict.the-variants.{Refuses}
 use Rattle.circuit.specs.Circuit.{netOf}
 use Rattle.behaviour.specs.Service.{resetBy, resetVerdict, resetNet, resetFile, runBy, runVerdict, runNet, runFile}
-use Rattle.behaviour.specs.ServiceLaws.{reset-passed, run-passed}
+use Rattle.behaviour.specs.ServiceLaws.{reset-file, run-file}
 use Rattle.checks.specs.Open.{Open}
 
 -- ---- a file that is refused
@@ -26,7 +26,7 @@ run-turned-away s st ins outs e = let N = decodedNet (decode s) in ap (λ (v : V
 
 module _ {s l : List ℕ} (o : Open s l) where
   pub reset-taken : (st : List ℕ) → resetFile s st ≡ resetNet (netOf s l) st
-  reset-taken = reset-passed s (netOf s l) (o .fine) (o .decodes)
+  reset-taken = reset-file s (netOf s l) (o .file)
 
   pub run-taken : (st ins outs : List ℕ) → runFile s st ins outs ≡ runNet (netOf s l) st ins outs
-  run-taken = run-passed s (netOf s l) (o .fine) (o .decodes)
+  run-taken = run-file s (netOf s l) (o .file)

@@ -9,7 +9,7 @@ pub use timing::timing;
 use crate::checks::{checked, Checked};
 use crate::copies::Copies;
 use crate::leads::{before, chains, taken, Chain, Timing};
-use crate::netlist::{Netlist, Node, MAX_NODES};
+use crate::netlist::{leave_out_unread, Netlist, Node, MAX_NODES};
 use crate::plan::Plan;
 use crate::refusal::{refuse, Answer, Refusal, GROWN, NOWHERE};
 use crate::rewrite::{written, Retimed};
@@ -34,10 +34,9 @@ pub fn retimed<'a>(checked: &Checked<'a>) -> Result<Retimed<'a>, Refusal> {
     }
     let mut new = plan.build();
     gates.add(&mut new);
-    let netlist = Netlist {
-        tables: checked.netlist.tables.clone(),
-        nodes: new,
-    };
+    let mut tables = checked.netlist.tables.clone();
+    leave_out_unread(&mut tables, &mut new);
+    let netlist = Netlist { tables, nodes: new };
     Ok(Retimed {
         numbers: plan.numbers,
         timing,

@@ -7,7 +7,7 @@ use super::Random;
 use crate::design::{Design, Words};
 use crate::format::{self, TAG_FILLED_TABLE, TAG_TABLE};
 use crate::netlist::{mask, MAX_TABLES};
-use crate::refusal::{refuse, Answer, TABLE, TAG};
+use crate::refusal::{refuse, Answer, TABLE, TAG, UNREAD_TABLE};
 
 /// Where the parts of a table's field stand. A fill word is the first of the words.
 const TAG_AT: usize = 0;
@@ -17,10 +17,11 @@ const WORDS_AT: usize = 5;
 
 /// A file with a changed table, and the check's answer.
 pub fn changed_table(random: &mut Random) -> (Vec<u8>, Answer) {
-    match random.below(6) {
+    match random.below(7) {
         0 => seventeenth(random),
         1 => behind_a_node(random),
         2 => retagged(random),
+        3 => unread(random),
         _ => spoilt(random),
     }
 }
@@ -61,6 +62,32 @@ fn retagged(random: &mut Random) -> (Vec<u8>, Answer) {
     (file, answer)
 }
 
+/// A table more that no node reads, among the others; now and then a second one behind it.
+fn unread(random: &mut Random) -> (Vec<u8>, Answer) {
+    let mut design = loop {
+        let design = netlist(random);
+        if design.tables.len() < MAX_TABLES {
+            break design;
+        }
+    };
+    let lowest = random.between(0, design.tables.len());
+    insert(random, &mut design, lowest);
+    if design.tables.len() < MAX_TABLES && random.chance(30) {
+        let other = random.between(lowest + 1, design.tables.len());
+        insert(random, &mut design, other);
+    }
+    (design.file(), refuse(UNREAD_TABLE, lowest))
+}
+
+/// Adds a table that gets the number; those from there on have one more.
+fn insert(random: &mut Random, design: &mut Design, number: usize) {
+    small_table(random, design);
+    design.tables[number..].rotate_right(1);
+    for node in design.nodes.iter_mut().filter(|node| node.kind.is_rom()) {
+        node.table += u8::from(usize::from(node.table) >= number);
+    }
+}
+
 /// A table with one thing wrong.
 fn spoilt(random: &mut Random) -> (Vec<u8>, Answer) {
     let (mut file, _, start, end) = one_table(random);
@@ -72,10 +99,12 @@ fn spoilt(random: &mut Random) -> (Vec<u8>, Answer) {
 
 /// A netlist's file, one of its tables, and where that one's field starts and ends.
 fn one_table(random: &mut Random) -> (Vec<u8>, Words, usize, usize) {
-    let mut design = netlist(random);
-    if design.tables.is_empty() {
-        small_table(random, &mut design);
-    }
+    let mut design = loop {
+        let design = netlist(random);
+        if !design.tables.is_empty() {
+            break design;
+        }
+    };
     let file = design.file();
     let number = random.below(design.tables.len());
     let (start, end) = fields(&file)[1 + number];

@@ -137,6 +137,7 @@ pub fn grown_from(random: &mut Random, shape: &Shape, most: usize) -> Design {
     loop {
         let mut design = Grower::new(random, &shape).grow();
         if design.nodes.len() <= most {
+            design.leave_out_unread_tables();
             list(random, &mut design);
             return design;
         }

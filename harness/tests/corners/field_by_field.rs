@@ -19,6 +19,20 @@ pub fn whole(fields: &[&[u8]]) -> Vec<u8> {
     [file(fields).as_slice(), &END].concat()
 }
 
+/// The tables, each with a clocked ROM over it between two ports.
+pub fn with_readers(tables: &[&[u8]]) -> Vec<u8> {
+    let mut fields: Vec<Vec<u8>> = tables.iter().map(|table| table.to_vec()).collect();
+    for (number, table) in tables.iter().enumerate() {
+        let [bits, width] = [table[3], table[4]];
+        let [high, port] = (3 * number as u16).to_be_bytes();
+        fields.push(node(&[0, bits]));
+        fields.push(node(&[4, width, high, port, number as u8, 0, 0]));
+        fields.push(node(&[1, width, high, port + 1]));
+    }
+    let fields: Vec<&[u8]> = fields.iter().map(Vec::as_slice).collect();
+    whole(&fields)
+}
+
 /// A node field with the content.
 fn node(content: &[u8]) -> Vec<u8> {
     [&[3, 0, content.len() as u8], content].concat()
@@ -116,7 +130,7 @@ fn table_after_a_node() {
 
 #[test]
 fn seventeenth_table() {
-    accepted(&whole(&[&TABLE.repeat(16)]));
+    accepted(&with_readers(&[&TABLE[..]; 16]));
     refused(&whole(&[&TABLE.repeat(17)]), 4, 4 + 16 * 9);
     let tables = TABLE.repeat(16);
     refused(&whole(&[&tables, &[2, 0, 0]]), 4, 148);
@@ -142,19 +156,19 @@ fn table_of_bad_length() {
 
 #[test]
 fn table_word_too_wide() {
-    accepted(&whole(&[&[2, 0, 6, 1, 1, 0, 0, 0, 1]]));
+    accepted(&with_readers(&[&[2, 0, 6, 1, 1, 0, 0, 0, 1]]));
     refused(&whole(&[&[2, 0, 6, 1, 1, 0, 0, 0, 2]]), 4, 4);
     refused(&whole(&[&[2, 0, 6, 1, 1, 0, 2, 0, 0]]), 4, 4);
     refused(&whole(&[&[2, 0, 6, 1, 8, 1, 0, 0, 0]]), 4, 4);
     refused(&whole(&[&[2, 0, 6, 1, 15, 0, 0, 128, 0]]), 4, 4);
-    accepted(&whole(&[&[2, 0, 6, 1, 16, 255, 255, 255, 255]]));
+    accepted(&with_readers(&[&[2, 0, 6, 1, 16, 255, 255, 255, 255]]));
 }
 
 #[test]
 fn largest_tables() {
     let table = [&[2, 8, 2, 10, 16][..], &[255; 2048]].concat();
     let last_word_wide = [&[2, 8, 2, 10, 15][..], &[127; 2046], &[128, 0]].concat();
-    accepted(&whole(&[table.as_slice(); 16]));
+    accepted(&with_readers(&[table.as_slice(); 16]));
     refused(&whole(&[&table, &last_word_wide]), 4, 4 + 2053);
 }
 

@@ -1,6 +1,6 @@
 //! Checks 2 to 4 on tables with a fill word.
 
-use super::field_by_field::{file, whole, INPUT, TABLE};
+use super::field_by_field::{file, whole, with_readers, INPUT, TABLE};
 use super::{accepted, refused};
 
 /// A table of two address bits: the two-bit words 1 and 2, then the fill word 3.
@@ -13,7 +13,7 @@ fn filled(content: &[u8]) -> Vec<u8> {
 }
 
 fn is_good(content: &[u8]) {
-    accepted(&whole(&[&filled(content)]));
+    accepted(&with_readers(&[&filled(content)]));
 }
 
 fn is_bad(content: &[u8]) {
@@ -93,16 +93,17 @@ fn each_of_the_two_tags_as_the_other() {
     is_good(&TABLE[3..]);
     refused(&whole(&[&[2, 0, 8], &FILLED[3..]]), 4, 4);
     // But three and the fill word are four.
-    accepted(&whole(&[&[2, 0, 10, 2, 2, 0, 3, 0, 1, 0, 2, 0, 0]]));
+    accepted(&with_readers(&[&[2, 0, 10, 2, 2, 0, 3, 0, 1, 0, 2, 0, 0]]));
     is_good(&[2, 2, 0, 3, 0, 1, 0, 2, 0, 0]);
 }
 
 #[test]
 fn seventeenth_table_of_both_tags() {
-    let eight = [TABLE.repeat(8), FILLED.repeat(8)].concat();
+    let eight_each = [[&TABLE[..]; 8], [&FILLED[..]; 8]].concat();
+    let eight = eight_each.concat();
     let offset = 4 + 8 * (9 + 11);
-    accepted(&whole(&[&eight]));
-    accepted(&whole(&[&FILLED.repeat(16)]));
+    accepted(&with_readers(&eight_each));
+    accepted(&with_readers(&[&FILLED[..]; 16]));
     refused(&whole(&[&eight, &FILLED]), 4, offset);
     refused(&whole(&[&eight, &TABLE]), 4, offset);
     refused(&whole(&[&eight, &[5, 0, 0]]), 4, offset);

@@ -184,7 +184,7 @@ fn gates_before_registers_that_stay() {
 
 #[test]
 fn a_constant_runs_late_too() {
-    let mut design = design();
+    let mut design = Design::default();
     let constant_two = design.constant(2, 2);
     let register = design.register(constant_two, 1);
     design.output(register);
@@ -203,7 +203,7 @@ fn a_constant_runs_late_too() {
 
 #[test]
 fn an_input_port_never_runs_late() {
-    let mut design = design();
+    let mut design = Design::default();
     let port = design.input(2);
     let last = row(&mut design, port, &[1, 2]);
     design.output(last);

@@ -46,9 +46,9 @@ fn ring(design: &mut Design) -> u16 {
 
 #[test]
 fn no_output_port() {
-    // The input ports stay, and the tables.
+    // The input ports stay, and nothing else.
     let mut design = design();
-    let mut expected = design.clone();
+    let mut expected = Design::default();
     for _ in 0..2 {
         let port = design.input(2);
         expected.input(2);
@@ -138,7 +138,7 @@ fn closed_debt_comes_before_port_debt() {
 /// A gate behind a port, and so many registers behind the gate. Late-started they stand before it,
 /// and each gets a register of the chain, a constant and a gate.
 fn delay(registers: usize) -> Design {
-    let mut design = design();
+    let mut design = Design::default();
     let port = design.input(2);
     let mut last = design.gate(Kind::Not, 2, &[port]);
     for reset in 0..registers {
@@ -152,7 +152,8 @@ fn delay(registers: usize) -> Design {
 fn port_debt_comes_before_growth() {
     let mut design = delay(256);
     late_refused(&design, GROWN);
-    let rom = design.async_rom(0, 0);
+    let table = design.table(2, &[3, 1, 2, 2]);
+    let rom = design.async_rom(0, table);
     design.output(rom);
     late_refused(&design, port_debt(0));
 }

@@ -8,6 +8,7 @@ mod late_files;
 mod late_start;
 mod previews;
 mod rewriting;
+mod unread_tables;
 mod whole_netlist;
 mod words_and_states;
 

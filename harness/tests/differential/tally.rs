@@ -2,6 +2,7 @@
 
 use std::fmt::Debug;
 
+use harness::refusal::NUMBERS;
 use harness::{hex, Refusal};
 
 #[derive(Default)]
@@ -10,7 +11,7 @@ pub struct Tally {
     pub calls: usize,
     pub bytes: usize,
     /// The answers by refusal, accepted ones at 0.
-    pub refusals: [usize; 17],
+    pub refusals: [usize; NUMBERS],
 }
 
 impl Tally {

@@ -3,5 +3,6 @@
 
 mod counts;
 mod refused;
+mod tables;
 mod varied;
 mod walks;

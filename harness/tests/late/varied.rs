@@ -144,6 +144,9 @@ fn late_netlists_are_varied() {
         let left_out = |kind: fn(Kind) -> bool| nodes.clone().any(|(n, s)| !s && kind(n.kind));
         count("a gate left out", outputs > 0 && left_out(Kind::is_gate));
         count("a ROM left out", outputs > 0 && left_out(Kind::is_rom));
+        let [tables, kept] = [&old.netlist.tables, &new.netlist.tables];
+        count("a table left out", kept.len() < tables.len());
+        count("a table with a new number", !tables.starts_with(kept));
 
         let wires = late_wires(&old, &new);
         let any = |wire: fn(&LateWire) -> bool| wires.iter().any(wire);

@@ -12,7 +12,7 @@ use Rattle.retiming.specs.Modes.{modeTiming}
 use Rattle.wiring.specs.Wiring.{Timed}
 use Rattle.plan.specs.Plan.{PlanLaid}
 use Rattle.steering.specs.Gated.{Steering}
-use Rattle.retime.specs.Laying.{says-13, says-fine, laid-new}
+use Rattle.retime.specs.Laying.{says-13, says-fine, laid-as}
 use borrow.Author.Needs.{needs}
 use Rattle.retime.proofs.lay_timed.Statement.{statement}
 use Rattle.retime.proofs.lay_timed.Tie as tie
@@ -147,7 +147,7 @@ returns-2 c =
     let a = c .before .before .before .before .before .before .before .before .before .before .before .before .before .before .before .before .before .before .before .before .before .before .before .before .before .before .before .before .before .before .before .before .args in
     let N = netOf (a .file .now) (a .net .now) in
     let same = c .before .before .before .before .before .before .before .before .before .before .before .before .before .before .before .before .add-gates .ensures .1 ∙ c .before .before .before .before .before .before .before .before .before .before .before .before .before .before .before .before .before .before .before .before .before .make-plan .ensures .1 in
-    (says-fine _ N (c .before .before .before .before .before .before .before .before .before .before .before .before .before .before .before .before .before .before .before .before .before .before .before .before .before .before .before .before .before .before .before .before .pre .1 .5) same (omega (arith, c .before .before .before .before .before .before .before .before .before .reset-words .ensures .count, c .before .before .before .before .before .before .before .before .before .before .before .before .before .before .if1 .left)), λ _. laid-new _ N (c .before .before .before .before .before .before .before .before .before .before .before .before .before .before .before .before .before .before .before .before .before .before .before .before .before .before .before .before .before .before .before .before .pre .1 .5) same (c .before .before .lay-circuit .ensures))
+    (says-fine _ N (c .before .before .before .before .before .before .before .before .before .before .before .before .before .before .before .before .before .before .before .before .before .before .before .before .before .before .before .before .before .before .before .before .pre .1 .5) same (omega (arith, c .before .before .before .before .before .before .before .before .before .reset-words .ensures .count, c .before .before .before .before .before .before .before .before .before .before .before .before .before .before .if1 .left)), λ _. laid-as _ N (c .before .before .before .before .before .before .before .before .before .before .before .before .before .before .before .before .before .before .before .before .before .before .before .before .before .before .before .before .before .before .before .before .pre .1 .5) same (c .before .before .lay-circuit .ensures))
 
 pub lay-timed-spec : {M : Type 1} → statement M
 lay-timed-spec =

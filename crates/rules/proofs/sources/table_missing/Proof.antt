@@ -1,8 +1,9 @@
 -- Only a ROM has a table.
 use native.Mathlib.Omega.{arith}
 use Rattle.netlist.specs.Net.{elementAt}
+use Rattle.circuit.specs.Code.{rom-table}
 use Rattle.circuit.specs.Circuit.{netOf}
-use Rattle.rules.proofs.SourceLaws.{no-rom, rom-code, rom-table, table-here, table-nowhere}
+use Rattle.rules.proofs.SourceLaws.{no-rom, rom-code, table-here, table-nowhere}
 use mathlib.Core.Path.{sym}
 use borrow.Author.Needs.{needs}
 use Rattle.rules.proofs.sources.table_missing.Statement.{statement}

@@ -3,8 +3,8 @@ use Rattle.netlist.specs.Net.{elementAt}
 use mathlib.Core.Path.{sym, ap, _∙_}
 use Prim.Native.Nat.{ℕ}
 use lib.Dec.{eqb}
+use Rattle.circuit.specs.Code.{rom-table}
 use Rattle.circuit.specs.Circuit.{netOf}
-use Rattle.rules.proofs.SourceLaws.{rom-table}
 use Rattle.rules.proofs.WidthLaws.{memory-on, memory-off}
 use borrow.Author.Needs.{needs}
 use Rattle.rules.proofs.widths.memory_widths.Statement.{statement}
