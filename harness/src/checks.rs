@@ -1,5 +1,5 @@
-//! Checks 6 to 10, and 17 among them, each over the whole netlist, and the orders in which the layers above go
-//! through it.
+//! Checks 6 to 10, and 17 among them, each over the whole netlist, and the orders in which the
+//! layers above go through it.
 
 use crate::format;
 use crate::netlist::{tables_read, Kind, Netlist, Node};

@@ -3,7 +3,7 @@
 use harness::format::{self, MAX_FILE};
 use harness::lent::Lent;
 use harness::random::{self, Entry, Random};
-use harness::refusal::{NOWHERE, OUT};
+use harness::refusal::{NOWHERE, OUT, STATE, WORDS};
 use harness::{hex, product, OnBytes, Refusal};
 
 use super::files::{any_file, any_late_file, workload_files};
@@ -33,8 +33,7 @@ fn rewrite_late() {
         compare(&mut tally, &mut random, &file, services);
     }
     tally.print("rewrite late");
-    let [up_to_14 @ .., _, _] = tally.refusals;
-    assert!(up_to_14.iter().all(|&answers| answers > 0));
+    tally.all_came_up_but(&[WORDS, STATE]);
 }
 
 /// The harness's service and the product's, into outputs longer than needed, as long, and too

@@ -34,6 +34,15 @@ impl Tally {
         self.refusals[own.err().map_or(0, |r| usize::from(r.number))] += 1;
     }
 
+    /// Each answer came up, but none of these refusals, which the service never says.
+    #[cfg(feature = "rewrite")]
+    pub fn all_came_up_but(&self, never: &[u16]) {
+        for (number, &answers) in self.refusals.iter().enumerate() {
+            let said = !never.contains(&(number as u16));
+            assert_eq!(answers > 0, said, "refusal {number}");
+        }
+    }
+
     #[cfg(feature = "run")]
     pub fn bytes(&mut self, what: &str, file: &[u8], own: &[u8], product: &[u8]) {
         assert!(
