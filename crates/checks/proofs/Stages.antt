@@ -9,8 +9,9 @@ use Rattle.lists.specs.Lists.{lowest}
 use Rattle.lists.specs.BelowLaws.{lowestFrom-is}
 use Rattle.netlist.specs.Net.{inClock, inRegisters, Net, size, Sourced}
 use Rattle.netlist.specs.Reach.{reachesItself}
+use Rattle.netlist.specs.Checks.{HasTables}
 use Rattle.netlist.specs.Verdict.{badSource, badWidth, unread, unreadTable, inLoop, inRing, Stage, atLowest, verdict, readerStages, readerVerdict}
-use Rattle.netlist.specs.VerdictLaws.{six-sourced}
+use Rattle.netlist.specs.VerdictLaws.{six-is, six-sourced}
 use Rattle.netlist.specs.Places.{skip, refuses}
 use Rattle.netlist.specs.declared.Verdict.the-variants.{Fine, Refuses}
 use Rattle.checks.specs.Open.{fromNine}
@@ -57,6 +58,9 @@ module _ (N : Net) where
 
     pub sourced : n ≤ a → Sourced N
     sourced h = six-sourced N (free n (badSource N) a e h)
+
+    pub tables-there : n ≤ a → HasTables N
+    tables-there h v l = six-is N v .0 (free n (badSource N) a e h v l) .0
 
     module _ {b : ℕ} (f : b ≡ lowest n (badWidth N)) where
       pub seven-refuses : n ≤ a → b < n → Refuses 7 b ≡ readerVerdict N

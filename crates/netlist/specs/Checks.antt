@@ -77,6 +77,9 @@ HasTable ts (Async m) = tableNo m < length ts
 HasTable ts (Clocked m r) = tableNo m < length ts
 HasTable ts (Gate o) = Unit {0}
 
+abbrev pub HasTables : Net → Type 0
+HasTables N = (v : ℕ) → v < size N → HasTable (N .tables) (elementAt N v)
+
 -- 6, of node v: its table is there, and each of its sources is a node and no output port
 abbrev pub SourcesRight : Net → ℕ → Type 0
 SourcesRight N v = HasTable (N .tables) (elementAt N v)
@@ -126,7 +129,7 @@ pub record WellFormed (N : Net) : Type 0 where
   pub fields : FieldsFit N
   pub sourced : Sourced N
   pub outputs-unread : (v p : ℕ) → v < size N → p < operands (elementAt N v) → isOutput (elementAt N (source N v p)) ≡ false
-  pub has-table : (v : ℕ) → v < size N → HasTable (N .tables) (elementAt N v)
+  pub has-table : HasTables N
   pub widths : (v : ℕ) → v < size N → WidthsRight N v
   pub read : (v : ℕ) → v < size N → HasReader N v
   pub no-loop : (v : ℕ) → Loop N v → ⊥

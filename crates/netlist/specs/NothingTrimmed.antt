@@ -14,12 +14,12 @@ use Rattle.lists.specs.SelectLaws.{select-first}
 use Rattle.netlist.specs.declared.Element.{Element}
 use Rattle.netlist.specs.Net.{Table, noTable, tableOf, Net, size, nodeAt, nowhere, elementAt}
 use Rattle.netlist.specs.Verdict.{readsTable, tableInUse}
-use Rattle.netlist.specs.Checks.{HasTable, TablesRead}
+use Rattle.netlist.specs.Checks.{HasTables, TablesRead}
 use Rattle.netlist.specs.Trim.{tableNumber, renumbered, trimmed}
 use Rattle.netlist.specs.Trimmed.{over-same, over-own}
 use Rattle.netlist.specs.TrimmedRules.{own-table}
 
-module _ (N : Net) (has : (v : ℕ) → v < size N → HasTable (N .tables) (elementAt N v)) (read : TablesRead N) where
+module _ (N : Net) (has : HasTables N) (read : TablesRead N) where
   abbrev n : ℕ
   n = length (N .tables)
 

@@ -52,7 +52,7 @@ blind-memory = record { same = λ k e. elim e [ Input ↦ refl | Output ↦ refl
 pub reads-own : (e : Element) → isMemory e ≡ true → readsTable e (tableOf e) ≡ true
 reads-own e h = rw h (eqb-self (tableOf e))
 
-reads-only : (e : Element) (m : ℕ) → readsTable e m ≡ true → (isMemory e ≡ true) × (tableOf e ≡ m)
+pub reads-only : (e : Element) (m : ℕ) → readsTable e m ≡ true → (isMemory e ≡ true) × (tableOf e ≡ m)
 reads-only Input m h = absurd (false≢true h)
 reads-only Output m h = absurd (false≢true h)
 reads-only (Register r) m h = absurd (false≢true h)

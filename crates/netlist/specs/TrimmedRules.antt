@@ -10,7 +10,7 @@ use Rattle.netlist.specs.declared.Element.the-variants.{Input, Output, R
 use Rattle.netlist.specs.Net.{Table, tableOf, Net, size, elementAt, widthAt, source, operands, Class, inClock, inRegisters, isInput, isOutput, isAsync, isMemory, Sourced}
 use Rattle.netlist.specs.Reach.{Reads}
 use Rattle.netlist.specs.Rank.{ReadsIn, Through, once, then}
-use Rattle.netlist.specs.Checks.{tableIn, ElementWidths, Fits, HasTable, WidthsRight, HasReader, TableFits, WellFormed, TableHasReader}
+use Rattle.netlist.specs.Checks.{tableIn, ElementWidths, Fits, HasTable, HasTables, WidthsRight, HasReader, TableFits, WellFormed, TableHasReader}
 use Rattle.netlist.specs.Trim.{tableNumber, overTable, trimmed}
 use Rattle.netlist.specs.Trimmed.{Blind, reads-own, size-trimmed, inside-trimmed, element-trimmed, width-trimmed, source-trimmed, blind-trimmed, tables-trimmed, table-kept, number-kept}
 
@@ -84,7 +84,7 @@ through-old K b N w = walked w
     walked (once r) = once (step r)
     walked (then w r) = then (walked w) (step r)
 
-module _ (N : Net) (has : (v : ℕ) → v < size N → HasTable (N .tables) (elementAt N v)) where
+module _ (N : Net) (has : HasTables N) where
   -- the table of a memory is read, by itself
   own-read : (v : ℕ) → v < size N → isMemory (elementAt N v) ≡ true → TableHasReader N (tableOf (elementAt N v))
   own-read v h e = (v, h, reads-own (elementAt N v) e)
@@ -92,7 +92,7 @@ module _ (N : Net) (has : (v : ℕ) → v < size N → HasTable (N .tables) (ele
   pub own-kept : (v : ℕ) → v < size N → isMemory (elementAt N v) ≡ true → tableIn (trimmed N .tables) (tableNumber N (tableOf (elementAt N v))) ≡ tableIn (N .tables) (tableOf (elementAt N v))
   own-kept v h e = table-kept N (tableOf (elementAt N v)) (own-table (N .tables) (elementAt N v) (has v h) e) (own-read v h e)
 
-  pub has-trimmed : (v : ℕ) → v < size (trimmed N) → HasTable (trimmed N .tables) (elementAt (trimmed N) v)
+  pub has-trimmed : HasTables (trimmed N)
   has-trimmed v h =
       rw (element-trimmed N v) (has-over (trimmed N .tables) _ (elementAt N v)
       (λ e. let i = inside-trimmed N h in number-kept N (tableOf (elementAt N v)) (own-table (N .tables) (elementAt N v) (has v i) e) (own-read v i e)))

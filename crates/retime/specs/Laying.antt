@@ -8,9 +8,9 @@ use lib.ListN.{length, getD, take}
 use lib.Seq.{getD-take}
 use lib.Dec.{ltb, lit<}
 use borrow.Author.Tests.{lt-ltb, le-ltb}
-use Rattle.netlist.specs.Net.{Net, size, elementAt}
+use Rattle.netlist.specs.Net.{Net, size}
 use Rattle.netlist.specs.Trim.{trimmed}
-use Rattle.netlist.specs.Checks.{HasTable, WellFormed}
+use Rattle.netlist.specs.Checks.{HasTables, WellFormed}
 use Rattle.netlist.specs.Verdict.{ofWhole, verdict, onward}
 use Rattle.netlist.specs.VerdictLaws.{fine-clear}
 use Rattle.netlist.specs.File.{Decoded, decode, decodedNet, judged, fileVerdict}
@@ -71,12 +71,12 @@ module _ (mode : Mode) (N : Net) (is : NewIs mode N) {made : Mode} (same : made 
 -- where 13 is not said, each ROM that is laid has its table
 module _ (mode : Mode) (N : Net) (is : NewIs mode N) (s l : List ℕ) (n : netOf s l ≡ gatedWith N (modeTiming mode N) (zeroWord N)) where
   pub laid-has : {timing : List ℕ} → Timed N (modeTiming mode N) timing → {v : Verdict} → v ≡ grownVerdict mode N → v ≡ Fine
-      → (v : ℕ) → v < size (netOf s l) → HasTable (netOf s l .tables) (elementAt (netOf s l) v)
+      → HasTables (netOf s l)
   unfolding grownVerdict
   laid-has t e q =
       let M = gatedWith N (modeTiming mode N) (zeroWord N) in
       let few = bounded (modeNet mode N) (fine-clear _ (sym e ∙ q) .0 0 (lit< tt)) .nodes in
-      subst (λ (M : Net). (v : ℕ) → v < size M → HasTable (M .tables) (elementAt M v)) (sym n)
+      subst HasTables (sym n)
       (retimed-alike N (t .formed) (modeTiming mode N) (t .suits .retimes) (record { nodes = omega (arith, few, ap size is, mode-size mode M) }) .new .has-table)
 
   pub laid-new : {m : List ℕ} → IsCircuit s m (modeTrimmed mode (netOf s l)) → IsCircuit s m (modeNet mode N)

@@ -19,10 +19,10 @@ use wires::find_roots;
 use wiring::WIRES;
 ghost use mathlib.Core.Path.{_≡_};
 ghost use mathlib.Core.Bool.{false};
-ghost use Prim.Native.Nat.{ℕ, _≤_, _<_};
+ghost use Prim.Native.Nat.{_≤_, _<_};
 ghost use lib.ListN.{length};
-ghost use Rattle.netlist.specs.Net.{Net, size, elementAt, inClock};
-ghost use Rattle.netlist.specs.Checks.{HasTable, WellFormed};
+ghost use Rattle.netlist.specs.Net.{Net, size, inClock};
+ghost use Rattle.netlist.specs.Checks.{HasTables, WellFormed};
 ghost use Rattle.circuit.specs.Circuit.{circuitWords, orderOf};
 ghost use Rattle.circuit.specs.Opened.{opened};
 ghost use Rattle.circuit.specs.Order.{Complete};
@@ -82,7 +82,7 @@ fn lay_timed(file: &[u8], net: &[u16], mode: Mode, timing: &[u16], new: &mut [u1
 // Leaves out the tables that no node of the new circuit reads. The plain mode has none such.
 fn leave_out_tables(file: &[u8], mode: Mode, new: &mut [u16])
     ghost { Net }
-    requires { λ M. opened 𝓤 (now file) (now new) M ((v : ℕ) → v < size M → HasTable (M .tables) (elementAt M v)) }
+    requires { λ M. opened 𝓤 (now file) (now new) M (HasTables M) }
     ensures { λ M _. ⌜ IsCircuit (now (file .entry)) (now (new .exit)) (modeTrimmed mode M) ⌝ }
 {
     match mode {

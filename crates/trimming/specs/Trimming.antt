@@ -15,9 +15,9 @@ use Rattle.lists.specs.SelectLaws.{map-select, some-member, select-at}
 use Rattle.netlist.specs.declared.Node.{Node}
 use Rattle.netlist.specs.ScanLaws.{TableAt}
 use Rattle.netlist.specs.File.{tableIn}
-use Rattle.netlist.specs.Net.{Table, Net, nowhere, noTable, tableOf, size, nodeAt, elementAt}
+use Rattle.netlist.specs.Net.{Table, Net, nowhere, noTable, tableOf, nodeAt, elementAt}
 use Rattle.netlist.specs.Verdict.{tableInUse}
-use Rattle.netlist.specs.Checks.{HasTable}
+use Rattle.netlist.specs.Checks.{HasTable, HasTables}
 use Rattle.netlist.specs.Trim.{tableNumber, renumbered, trimmed}
 use Rattle.netlist.specs.Trimmed.{over-same}
 use Rattle.netlist.specs.TrimmedRules.{own-table}
@@ -41,8 +41,8 @@ bit-marked : (b : Bool) → ltb 0 (one b) ≡ b
 bit-marked true = refl
 bit-marked false = refl
 
-module _ (s l : List ℕ) (i : Circuit s l) (there : (v : ℕ) → v < size (netOf s l) → HasTable (netOf s l .tables) (elementAt (netOf s l) v))
-    {marks numbers : List ℕ} (t : TableMarks (netOf s l) marks (size (netOf s l))) (n : Numbered marks numbers 16) where
+module _ (s l : List ℕ) (i : Circuit s l) (there : HasTables (netOf s l))
+    {marks numbers : List ℕ} (t : TableMarks (netOf s l) marks) (n : Numbered marks numbers 16) where
   abbrev N : Net
   N = netOf s l
 
@@ -56,15 +56,12 @@ module _ (s l : List ℕ) (i : Circuit s l) (there : (v : ℕ) → v < size (net
   few : length (tablesOf l) ≤ 16
   few = i .formed .few-tables
 
-  in-use : (k : ℕ) → k < 16 → marked marks k ≡ tableInUse N k
-  unfolding tableInUse
-  in-use k h = ap (ltb 0) (t .each k h) ∙ bit-marked _
+  in-use : (k : ℕ) → k < length (N .tables) → marked marks k ≡ tableInUse N k
+  in-use k h = ap (ltb 0) (t .each k h) ∙ bit-marked (tableInUse N k)
 
   number-is : (k : ℕ) → k < length (N .tables) → g k ≡ tableNumber N k
   unfolding tableNumber
-  number-is k h =
-      let l16 : k < 16 = omega (arith, few, tables-of s l) in
-      n .each k l16 ∙ count-same (marked marks) (tableInUse N) k (λ v d. in-use v (omega arith))
+  number-is k h = n .each k (omega (arith, few, tables-of s l)) ∙ count-same (marked marks) (tableInUse N) k (λ v d. in-use v (omega arith))
 
   nodes-are : map (renumbered g) (nodesOf l) ≡ trimmed N .nodes
   unfolding trimmed netOf elementAt nodeAt
@@ -80,7 +77,7 @@ module _ (s l : List ℕ) (i : Circuit s l) (there : (v : ℕ) → v < size (net
   tables-are =
       map-select (tableIn s) (marked marks) (λ k. getD (tablesOf l) k 0) (length (tablesOf l))
       ∙ concatMap-cong (λ k. only (marked marks k) (tableIn s (getD (tablesOf l) k 0))) (λ k. only (tableInUse N k) (getD (N .tables) k noTable)) 0 (length (tablesOf l))
-      (λ k h. ap₂ only (in-use k (omega (arith, few))) (sym (getD-map-lt (tableIn s) (tablesOf l) k 0 noTable (omega arith))))
+      (λ k h. ap₂ only (in-use k (omega (arith, tables-of s l))) (sym (getD-map-lt (tableIn s) (tablesOf l) k 0 noTable (omega arith))))
       ∙ ap (select (tableInUse N) (λ k. getD (N .tables) k noTable)) (sym (tables-of s l))
 
   -- each of them is a table of the file

@@ -9,8 +9,8 @@ ghost use mathlib.Core.Path.{_≡_};
 ghost use mathlib.Core.List.{map};
 ghost use Prim.Native.Nat.{ℕ, _<_, _≤_};
 ghost use lib.ListN.{length, getD};
-ghost use Rattle.netlist.specs.Net.{Net, size, elementAt};
-ghost use Rattle.netlist.specs.Checks.{HasTable};
+ghost use Rattle.netlist.specs.Net.{Net};
+ghost use Rattle.netlist.specs.Checks.{HasTables};
 ghost use Rattle.netlist.specs.Trim.{renumbered, trimmed};
 ghost use Rattle.circuit.specs.Circuit.{nodesOf, tablesOf, netOf, Circuit};
 ghost use Rattle.circuit.specs.Building.{Built};
@@ -50,7 +50,7 @@ fn renumber(file: &[u8], net: &mut [u16], numbers: &[u16])
 // Leaves out the tables that no node reads, and numbers the others anew.
 pub fn trim_tables(file: &[u8], net: &mut [u16])
     ghost { Net }
-    requires { λ N. opened 𝓤 (now file) (now net) N ((v : ℕ) → v < size N → HasTable (N .tables) (elementAt N v)) }
+    requires { λ N. opened 𝓤 (now file) (now net) N (HasTables N) }
     ensures { λ N _. ⌜ (netOf (now (file .entry)) (now (net .exit)) ≡ trimmed N) × Circuit (now (file .entry)) (now (net .exit)) ⌝ }
 {
     let mut marks = [0u8; 17];

@@ -4,7 +4,7 @@ use Prim.Native.Nat.{ℕ}
 use native.Mathlib.Omega.{arith}
 use Rattle.circuit.specs.Circuit.{netOf}
 use Rattle.rules.specs.Marks.{no-marks}
-use Rattle.checks.proofs.Stages.{six-refuses, seven-refuses, eight-refuses, seventeen-refuses, to-nine, sourced}
+use Rattle.checks.proofs.Stages.{six-refuses, seven-refuses, eight-refuses, seventeen-refuses, to-nine, sourced, tables-there}
 use borrow.Author.Needs.{needs}
 use Rattle.checks.proofs.net_verdict.Statement.{statement}
 use Rattle.checks.proofs.net_verdict.Tie as tie
@@ -70,7 +70,10 @@ returns-3 c =
     (refl, c .before .before .before .before .before .before .before .before .before .before .before .before .before .before .before .before .pre, eight-refuses N (c .before .before .before .before .before .before .before .before .before .lowest-bad-source .ensures .0) (c .before .before .before .before .before .lowest-bad-width .ensures) (c .before .lowest-unread .ensures) (omega (arith, c .before .before .before .before .before .before .before .if1 .left, n)) (omega (arith, c .before .before .before .before .if2 .left, n)) (omega (arith, c .if3 .taken, n)), λ q. absurd (let x : _≡_ {A = ℕ} 0 1 = cc in omega arith))
 
 lowest-unread-table-requires : tie.Need-lowest-unread-table-requires
-lowest-unread-table-requires c κs = search needs
+lowest-unread-table-requires c κs =
+    let a = c .before .before .before .before .before .before .before .before .before .before .before .before .before .before .before .before .before .args in
+    let N = netOf (a .file .now) (a .net .now) in
+    (c .before .before .before .before .before .before .before .before .before .before .before .before .before .before .before .before .before .pre, tables-there N (c .before .before .before .before .before .before .before .before .before .before .lowest-bad-source .ensures .0) (omega (arith, c .before .before .before .before .before .before .before .before .if1 .left, c .before .before .before .before .before .before .before .before .before .before .before .before .before .node-count .ensures)))
 
 table-count-requires : tie.Need-table-count-requires
 table-count-requires c κs = search needs

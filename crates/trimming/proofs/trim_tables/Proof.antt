@@ -1,7 +1,6 @@
 -- The theorem of what its four parts ensure.
 use native.Mathlib.Omega.{arith}
-use Rattle.circuit.specs.Circuit.{netOf}
-use Rattle.rules.specs.TableMarks.{no-table-marks}
+use Rattle.rules.specs.TableMarks.{unmarked}
 use Rattle.trimming.specs.Numbers.{numbers-small}
 use Rattle.trimming.specs.Trimming.{trimmed-is}
 use borrow.Author.Needs.{needs}
@@ -13,8 +12,8 @@ slice-aggregate-mark-tables c = search needs
 
 mark-tables-requires : tie.Need-mark-tables-requires
 mark-tables-requires c κs =
-    let a = c .before .before .before .before in
-    (a .pre .0, no-table-marks (netOf (a .args .file .now) (a .args .net .now)) 17 (omega arith))
+    let p = c .before .before .before .before .pre in
+    (p .0, (p .1, unmarked 17 (omega arith)))
 
 slice-aggregate-number-tables : tie.Need-slice-aggregate-number-tables
 slice-aggregate-number-tables c = search needs

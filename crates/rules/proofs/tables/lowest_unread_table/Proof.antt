@@ -1,7 +1,6 @@
 -- At first no table is marked.
 use native.Mathlib.Omega.{arith}
-use Rattle.circuit.specs.Circuit.{netOf}
-use Rattle.rules.specs.TableMarks.{no-table-marks}
+use Rattle.rules.specs.TableMarks.{unmarked}
 use borrow.Author.Needs.{needs}
 use Rattle.rules.proofs.tables.lowest_unread_table.Statement.{statement}
 use Rattle.rules.proofs.tables.lowest_unread_table.Tie as tie
@@ -11,8 +10,8 @@ slice-aggregate-mark-tables c = search needs
 
 mark-tables-requires : tie.Need-mark-tables-requires
 mark-tables-requires c κs =
-    let a = c .before .before .before .args in
-    (c .before .before .before .pre, no-table-marks (netOf (a .file .now) (a .net .now)) 17 (omega arith))
+    let p = c .before .before .before .pre in
+    (p .0, (p .1, unmarked 17 (omega arith)))
 
 slice-aggregate-lowest-unmarked : tie.Need-slice-aggregate-lowest-unmarked
 slice-aggregate-lowest-unmarked c = search needs
