@@ -24,8 +24,8 @@
  * There is no heap. Of the stack both rewritings and the preview take 87 KiB and every other
  * function at most 43 KiB, as measured.
  *
- * Refusals, in the order in which they are looked for. 17 came later; it counts among 1 to 10, and
- * where a function is said to check 1 to 10, it checks 17 with them:
+ * Refusals, in the order in which they are looked for. 17 stands among 1 to 10: a function that is
+ * said to check 1 to 10 checks it with them.
  *    1 long         the file has over 46,000 bytes                        place 0
  *    2 short        a field passes the file's end, or the end is missing  offset in the file
  *    3 tag          unknown tag, wrong order, bad head or end, or more    offset in the file

@@ -19,6 +19,7 @@ use Rattle.netlist.specs.Places.{LowestOf, breaks-is, skip, refuses-iff}
 use Rattle.netlist.specs.declared.Verdict.the-variants.{Refuses}
 
 module _ (N : Net) where
+  -- 17, 9 and 10
   abbrev from-17 : List Stage
   from-17 = atLowest 17 (length (N .tables)) (unreadTable N) ∷ atLowest 9 (size N) (inLoop N) ∷ atLowest 10 (size N) (inRing N) ∷ []
 

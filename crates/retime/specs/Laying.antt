@@ -9,7 +9,6 @@ use lib.Seq.{getD-take}
 use lib.Dec.{ltb, lit<}
 use borrow.Author.Tests.{lt-ltb, le-ltb}
 use Rattle.netlist.specs.Net.{Net, size}
-use Rattle.netlist.specs.Trim.{trimmed}
 use Rattle.netlist.specs.Checks.{HasTables, WellFormed}
 use Rattle.netlist.specs.Verdict.{ofWhole, verdict, onward}
 use Rattle.netlist.specs.VerdictLaws.{fine-clear}
@@ -83,12 +82,8 @@ module _ (mode : Mode) (N : Net) (is : NewIs mode N) (s l : List ℕ) (n : netOf
   laid-new (e, k) = (e ∙ ap (modeTrimmed mode) n ∙ is, k)
 
 -- what the mode leaves out
-module _ (M : Net) {mode : Mode} {s l : List ℕ} where
-  pub left-plain : mode ≡ Plain → IsCircuit s l M → IsCircuit s l (modeTrimmed mode M)
-  left-plain e c = subst (λ (m : Mode). IsCircuit s l (modeTrimmed m M)) (sym e) c
-
-  pub left-late : mode ≡ Late → IsCircuit s l (trimmed M) → IsCircuit s l (modeTrimmed mode M)
-  left-late e c = subst (λ (m : Mode). IsCircuit s l (modeTrimmed m M)) (sym e) c
+pub left-by : (M : Net) {mode found : Mode} {s l : List ℕ} → mode ≡ found → IsCircuit s l (modeTrimmed found M) → IsCircuit s l (modeTrimmed mode M)
+left-by M {s = s} {l} e c = subst (λ (m : Mode). IsCircuit s l (modeTrimmed m M)) (sym e) c
 
 -- ---- what is answered, and what is then laid
 

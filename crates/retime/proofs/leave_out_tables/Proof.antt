@@ -1,6 +1,6 @@
 -- By the mode.
 use mathlib.Core.Path.{refl}
-use Rattle.retime.specs.Laying.{left-plain, left-late}
+use Rattle.retime.specs.Laying.{left-by}
 use borrow.Author.Needs.{needs}
 use Rattle.retime.proofs.leave_out_tables.Statement.{statement}
 use Rattle.retime.proofs.leave_out_tables.Tie as tie
@@ -15,13 +15,13 @@ trim-tables-requires : tie.Need-trim-tables-requires
 trim-tables-requires c κs = search needs
 
 returns : tie.Need-returns
-returns c = left-plain _ (c .enum-told .given .1) (refl, c .before .before .before .before .pre .0)
+returns c = left-by _ (c .enum-told .given .1) (refl, c .before .before .before .before .pre .0)
 
 same-length : tie.Need-same-length
 same-length c = search needs
 
 returns-2 : tie.Need-returns-2
-returns-2 c = left-late _ (c .before .before .before .before .enum-told2 .given .1) (c .before .before .trim-tables .ensures)
+returns-2 c = left-by _ (c .before .before .before .before .enum-told2 .given .1) (c .before .before .trim-tables .ensures)
 
 pub leave-out-tables-spec : {M : Type 1} → statement M
 leave-out-tables-spec =
