@@ -17,6 +17,7 @@ use Rattle.netlist.specs.NodeField.{plainOp, opNumber}
 use Rattle.netlist.specs.NodeLaws.{plain-number}
 use Rattle.netlist.specs.Net.{rom, operands, isInput, isOutput, isRegister, isAsync, isClocked, isMemory, tableOf}
 use Rattle.netlist.specs.Trim.{overTable}
+use Rattle.netlist.specs.TrimmedRules.{blind-operands}
 
 abbrev pub codeOf : Element → ℕ
 codeOf Input = 0
@@ -185,17 +186,9 @@ over-by c x t k = go (eqb c 0) (eqb c 1) (eqb c 2) (eqb c 3) (eqb c 4) (opBy (c 
     go false false false false true o = refl
     go false false false false false o = refl
 
-over-operands : (k : ℕ) (e : Element) → operands (overTable k e) ≡ operands e
-over-operands k Input = refl
-over-operands k Output = refl
-over-operands k (Register r) = refl
-over-operands k (Async m) = refl
-over-operands k (Clocked m r) = refl
-over-operands k (Gate o) = refl
-
 -- which has as many operands
 pub operands-by : (c x t k : ℕ) → operands (elementBy c x k) ≡ operands (elementBy c x t)
-operands-by c x t k = ap operands (over-by c x t k) ∙ over-operands k (elementBy c x t)
+operands-by c x t k = ap operands (over-by c x t k) ∙ blind-operands .same k (elementBy c x t)
 
 -- ---- what a code tells of its element
 

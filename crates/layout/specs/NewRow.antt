@@ -5,12 +5,14 @@ use mathlib.Core.List.{List, [], _∷_}
 use Prim.Native.Nat.{ℕ, _+_, _<_}
 use native.Mathlib.Omega.{arith}
 use Rattle.lists.specs.Lists.{one}
+use Rattle.lists.specs.BelowLaws.{one-eqb}
 use Rattle.words.specs.declared.Op.the-variants.{Constant, Choose}
 use Rattle.netlist.specs.declared.Element.{Element}
 use Rattle.netlist.specs.declared.Element.the-variants.{Input, Output, Register, Async, Clocked, Gate}
 use Rattle.netlist.specs.declared.Node.{Node}
 use lib.Dec.{eqb}
 use Rattle.netlist.specs.Net.{Net, size, elementAt, widthAt, operands, tableOf, isAsync, isClocked, isMemory}
+use Rattle.netlist.specs.Memories.{memory-kinds}
 use Rattle.circuit.specs.declared.Row.{Row}
 use Rattle.circuit.specs.Code.{codeOf, numberOr, tableOr}
 use Rattle.circuit.specs.Circuit.{rowNode, netOf, Fits, Circuit}
@@ -51,12 +53,7 @@ new-table (Clocked k r) c h = h
 new-table (Gate o) c h = refl
 
 memory-one : (e : Element) → eqb (one (isAsync e) + one (isClocked e)) 1 ≡ isMemory e
-memory-one Input = refl
-memory-one Output = refl
-memory-one (Register r) = refl
-memory-one (Async k) = refl
-memory-one (Clocked k r) = refl
-memory-one (Gate o) = refl
+memory-one e = ap (λ (n : ℕ). eqb n 1) (memory-kinds e) ∙ one-eqb (isMemory e)
 
 -- ---- the row of an element, and of its node
 

@@ -8,7 +8,7 @@ use native.Mathlib.Omega.{arith}
 use lib.ListN.{getD}
 use lib.Dec.{ltb, eqb}
 use Rattle.lists.specs.Lists.{one}
-use Rattle.lists.specs.BelowLaws.{true-or-false}
+use Rattle.lists.specs.BelowLaws.{true-or-false, one-eqb}
 use Rattle.netlist.specs.Net.{Net, size, elementAt, isInput, isOutput, Sourced}
 use Rattle.retiming.specs.Leads.{lead, closedDebt}
 use Rattle.retiming.specs.Rewrite.{timing, timingBy}
@@ -21,10 +21,6 @@ use Rattle.retiming.specs.Modes.{modeEnds, modeClosed, modeOwing, modeTiming}
 use Rattle.leads.specs.Debts.{owingBy}
 
 -- ---- where walks may end
-
-one-eqb : (b : Bool) → eqb (one b) 1 ≡ b
-one-eqb true = refl
-one-eqb false = refl
 
 module _ (N : Net) {mode : Mode} (v : ℕ) where
   pub ends-plain : mode ≡ Plain → true ≡ modeEnds mode N v

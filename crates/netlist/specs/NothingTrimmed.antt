@@ -17,7 +17,7 @@ use Rattle.netlist.specs.Verdict.{readsTable, tableInUse}
 use Rattle.netlist.specs.Checks.{HasTables, TablesRead}
 use Rattle.netlist.specs.Trim.{tableNumber, renumbered, trimmed}
 use Rattle.netlist.specs.Trimmed.{over-same, over-own}
-use Rattle.netlist.specs.TrimmedRules.{own-table}
+use Rattle.netlist.specs.Memories.{own-table}
 
 module _ (N : Net) (has : HasTables N) (read : TablesRead N) where
   abbrev n : ℕ

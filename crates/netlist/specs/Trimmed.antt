@@ -4,7 +4,7 @@ use mathlib.Core.Bool.{true, false, false≢true}
 use Prim.Native.Nat.{ℕ, _≤_, _<_}
 use lib.ListN.{length, getD, length-map, List·getD-map}
 use Rattle.lists.specs.Lists.{countBelow}
-use Rattle.lists.specs.BelowLaws.{eqb-true, eqb-self, anyBelow-intro, anyBelow-elim, countBelow-le, countBelow-lt}
+use Rattle.lists.specs.BelowLaws.{anyBelow-intro, anyBelow-elim, countBelow-le, countBelow-lt}
 use Rattle.lists.specs.ListsLaws.{length-select, getD-select}
 use Rattle.lists.specs.SelectLaws.{Member, some-member, select-at}
 use Rattle.netlist.specs.declared.Element.{Element}
@@ -13,6 +13,7 @@ use Rattle.netlist.specs.declared.Node.{Node}
 use Rattle.netlist.specs.Net.{noTable, tableOf, Net, size, nodeAt, nowhere, elementAt, widthAt, source, isMemory}
 use Rattle.netlist.specs.Verdict.{readsTable, tableInUse}
 use Rattle.netlist.specs.Checks.{tableIn, TableHasReader, TablesRead}
+use Rattle.netlist.specs.Memories.{reads-own, reads-only}
 use Rattle.netlist.specs.Trim.{tableNumber, overTable, renumbered, trimmed}
 
 -- ---- what the number of its table does not touch of an element
@@ -47,18 +48,6 @@ over-own (Gate o) = refl
 
 pub blind-memory : Blind isMemory
 blind-memory = record { same = λ k e. elim e [ Input ↦ refl | Output ↦ refl | Register r ↦ refl | Async m ↦ refl | Clocked m r ↦ refl | Gate o ↦ refl ] }
-
--- who reads a table is a memory over it
-pub reads-own : (e : Element) → isMemory e ≡ true → readsTable e (tableOf e) ≡ true
-reads-own e h = rw h (eqb-self (tableOf e))
-
-pub reads-only : (e : Element) (m : ℕ) → readsTable e m ≡ true → (isMemory e ≡ true) × (tableOf e ≡ m)
-reads-only Input m h = absurd (false≢true h)
-reads-only Output m h = absurd (false≢true h)
-reads-only (Register r) m h = absurd (false≢true h)
-reads-only (Async k) m h = (refl, eqb-true h)
-reads-only (Clocked k r) m h = (refl, eqb-true h)
-reads-only (Gate o) m h = absurd (false≢true h)
 
 module _ (N : Net) where
   -- ---- the nodes

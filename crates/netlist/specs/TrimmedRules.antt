@@ -1,6 +1,6 @@
 -- A netlist that keeps the rules keeps them without its unread tables. Assumes nothing.
 use mathlib.Core.Path.{_≡_, refl, sym, ap, _∙_, subst, fun-ext}
-use mathlib.Core.Bool.{true, false, false≢true}
+use mathlib.Core.Bool.{true}
 use mathlib.Core.List.{List}
 use Prim.Native.Nat.{ℕ, _<_}
 use lib.ListN.{length}
@@ -11,8 +11,9 @@ use Rattle.netlist.specs.Net.{Table, tableOf, Net, size, elementAt, widt
 use Rattle.netlist.specs.Reach.{Reads}
 use Rattle.netlist.specs.Rank.{ReadsIn, Through, once, then}
 use Rattle.netlist.specs.Checks.{tableIn, ElementWidths, Fits, HasTable, HasTables, WidthsRight, HasReader, TableFits, WellFormed, TableHasReader}
+use Rattle.netlist.specs.Memories.{own-table, reads-own}
 use Rattle.netlist.specs.Trim.{tableNumber, overTable, trimmed}
-use Rattle.netlist.specs.Trimmed.{Blind, reads-own, size-trimmed, inside-trimmed, element-trimmed, width-trimmed, source-trimmed, blind-trimmed, tables-trimmed, table-kept, number-kept}
+use Rattle.netlist.specs.Trimmed.{Blind, size-trimmed, inside-trimmed, element-trimmed, width-trimmed, source-trimmed, blind-trimmed, tables-trimmed, table-kept, number-kept}
 
 pub blind-input : Blind isInput
 blind-input = record { same = λ k e. elim e [ Input ↦ refl | Output ↦ refl | Register r ↦ refl | Async m ↦ refl | Clocked m r ↦ refl | Gate o ↦ refl ] }
@@ -49,15 +50,6 @@ has-over ts k (Register r) h = tt
 has-over ts k (Async m) h = h refl
 has-over ts k (Clocked m r) h = h refl
 has-over ts k (Gate o) h = tt
-
--- the table of a memory is there
-pub own-table : (ts : List Table) (e : Element) → HasTable ts e → isMemory e ≡ true → tableOf e < length ts
-own-table ts Input r h = absurd (false≢true h)
-own-table ts Output r h = absurd (false≢true h)
-own-table ts (Register q) r h = absurd (false≢true h)
-own-table ts (Async m) r h = r
-own-table ts (Clocked m q) r h = r
-own-table ts (Gate o) r h = absurd (false≢true h)
 
 -- one of the same form
 widths-over : (ts us : List Table) (k : ℕ) (e : Element) (w : ℕ) (ws : ℕ → ℕ) → (isMemory e ≡ true → tableIn us k ≡ tableIn ts (tableOf e)) → ElementWidths ts e w ws → ElementWidths us (overTable k e) w ws

@@ -17,6 +17,7 @@ use Rattle.netlist.specs.declared.Node.{Node}
 use Rattle.lists.specs.Lists.{one}
 use Rattle.lists.specs.BelowLaws.{T→true, true→T, true-or-false, lt-or-le, getD-map-lt}
 use Rattle.netlist.specs.Net.{Net, size, nodeAt, nowhere, elementAt, widthAt, source, operands, gives, delayed, arity, tableNo, retabled, heldAt, heldBy, noTable, spelled, tableOf, contentsIn, contentsAt, withinClock, inClock, isRegister, isInput, isOutput, isClocked, isAsync, isMemory, Behaves, Sourced, RegistersFit}
+use Rattle.netlist.specs.Memories.{memory-kinds}
 use Rattle.netlist.specs.Reach.{Reads}
 use Rattle.retiming.specs.Leads.{asyncHere}
 use Rattle.retiming.specs.Rewrite.{Timing, wordFrom, oldOn, Place, Entry, Reg, root, passed, ownHere, memoryAt, registersOn, countOn, newTables, newTable, resetWord, copyOn, numberOf, along, newElement}
@@ -176,14 +177,6 @@ table-of-new (Async k) m c h = table-retabled k m
 table-of-new (Clocked k r) m c h = table-retabled k m
 table-of-new (Gate o) m c h = absurd (false≢true h)
 
-rom-kind : (e : Element) → isMemory e ≡ true → one (isAsync e) + one (isClocked e) ≡ 1
-rom-kind Input h = absurd (false≢true h)
-rom-kind Output h = absurd (false≢true h)
-rom-kind (Register r) h = absurd (false≢true h)
-rom-kind (Async m) h = refl
-rom-kind (Clocked m r) h = refl
-rom-kind (Gate o) h = absurd (false≢true h)
-
 no-rom-kind : (e : Element) → isMemory e ≡ false → one (isClocked e) ≡ 0
 no-rom-kind Input h = refl
 no-rom-kind Output h = refl
@@ -227,7 +220,7 @@ module _ (N : Net) (f : Timing) (Z : ℕ → ℕ → ℕ) (ok : Retimes N f) (x 
   -- behind a ROM: one of the registers is its own
   pub count-rom : memoryAt N (root N back) ≡ true → suc (countOn N f Z x p + f .lead x) ≡ oldOn N f Z x p + f .lead (root N back)
   unfolding countOn registersOn memoryAt ownHere oldOn
-  count-rom t = rw t (omega (arith, served, rom-kind (elementAt N (root N back)) t))
+  count-rom t = rw t (omega (arith, served, memory-kinds (elementAt N (root N back)), ap one t))
 
   pub count-other : memoryAt N (root N back) ≡ false → (countOn N f Z x p + f .lead x ≡ passed N back + f .lead (root N back)) × (oldOn N f Z x p ≡ passed N back)
   unfolding countOn registersOn memoryAt ownHere oldOn

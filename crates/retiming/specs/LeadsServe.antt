@@ -8,7 +8,7 @@ use Rattle.netlist.specs.Net.{Net, size, elementAt, source, isInput, isOutput, 
 use Rattle.netlist.specs.Checks.{WellFormed}
 use Rattle.retiming.specs.Leads.{lead, asyncHere, closedDebt, portDebt}
 use Rattle.retiming.specs.Rewrite.{root, ownHere, memoryAt, timing, timingBy}
-use Rattle.retiming.specs.Elements.{rom-parts}
+use Rattle.netlist.specs.Memories.{memory-kinds}
 use Rattle.retiming.specs.Wires.{wire-serves}
 use Rattle.retiming.specs.Least.{ServesWires, lead-least-wires}
 use Rattle.retiming.specs.Candidate.{Retimes}
@@ -26,7 +26,7 @@ module _ (N : Net) (wf : WellFormed N) (debtless : closedDebt N ≡ false) (port
   serves-wires : ServesWires N (lead N)
   unfolding ServesWires memoryAt ownHere asyncHere timing timingBy lead
   serves-wires x p h o q =
-      omega (arith, wire-serves N (served .sourced) (timing N) (served .serves) x p h refl q o, rom-parts (elementAt N (root N (source N x p))))
+      omega (arith, wire-serves N (served .sourced) (timing N) (served .serves) x p h refl q o, memory-kinds (elementAt N (root N (source N x p))))
 
   pub leads-serve : ServesNet N (lead N)
   unfolding timing timingBy lead

@@ -15,27 +15,16 @@ use Rattle.lists.specs.BelowLaws.{true-or-false, lt-or-le, eqb-true, eqb-self, 
 use Rattle.lists.specs.SearchLaws.{count-same, count-one-more, count-less}
 use Rattle.netlist.specs.Net.{Table, Net, size, elementAt, isAsync, isClocked, isMemory, tableOf}
 use Rattle.netlist.specs.Checks.{HasTable, HasTables}
-use Rattle.netlist.specs.Trimmed.{reads-only}
-use Rattle.netlist.specs.TrimmedRules.{own-table}
+use Rattle.netlist.specs.Memories.{memory-kinds, own-table, reads-only}
 use Rattle.netlist.specs.Verdict.{readsTable, tableInUse, unreadTable}
 use Rattle.netlist.specs.declared.Element.{Element}
-use Rattle.netlist.specs.declared.Element.the-variants.{Input, Output, Register, Async, Clocked, Gate}
 use Rattle.circuit.specs.Code.{tableOr, rom-table}
 use Rattle.rules.specs.TableMarks.{Unmarked, TableMarks}
 use Rattle.rules.proofs.ReaderLaws.{mark-at, one-of}
 
--- a ROM is of one kind alone
-rom-kinds : (e : Element) → one (isAsync e) + one (isClocked e) ≡ one (isMemory e)
-rom-kinds Input = refl
-rom-kinds Output = refl
-rom-kinds (Register r) = refl
-rom-kinds (Async m) = refl
-rom-kinds (Clocked m r) = refl
-rom-kinds (Gate o) = refl
-
 module _ (e : Element) {a b : ℕ} (p : a ≡ one (isAsync e)) (q : b ≡ one (isClocked e)) where
   kinds : a + b ≡ one (isMemory e)
-  kinds = omega (arith, rom-kinds e)
+  kinds = omega (arith, memory-kinds e)
 
   -- a ROM reads its table
   pub rom-reads : a + b ≡ 1 → {k : ℕ} → k ≡ tableOr k e → (m : ℕ) → eqb k m ≡ readsTable e m

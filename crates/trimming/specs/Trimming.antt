@@ -20,7 +20,7 @@ use Rattle.netlist.specs.Verdict.{tableInUse}
 use Rattle.netlist.specs.Checks.{HasTable, HasTables}
 use Rattle.netlist.specs.Trim.{tableNumber, renumbered, trimmed}
 use Rattle.netlist.specs.Trimmed.{over-same}
-use Rattle.netlist.specs.TrimmedRules.{own-table}
+use Rattle.netlist.specs.Memories.{own-table}
 use Rattle.circuit.specs.Circuit.{nodesOf, tablesOf, netOf, Circuit}
 use Rattle.circuit.specs.CircuitLaws.{tables-of}
 use Rattle.circuit.specs.Building.{Built, built-net, built-circuit}

@@ -14,7 +14,7 @@ use Rattle.lists.specs.Sections.{section-length, section-put, section-before, s
 use Rattle.lists.specs.BelowLaws.{true-or-false, lt-suc-split, lt-or-le, bit-true, bit-false}
 use Rattle.netlist.specs.declared.Element.{Element}
 use Rattle.netlist.specs.declared.Element.the-variants.{Input, Output, Register, Async, Clocked, Gate}
-use Rattle.netlist.specs.Net.{Net, size, elementAt, source, operands, isRegister, isAsync, isMemory, isClocked, Sourced}
+use Rattle.netlist.specs.Net.{Net, size, elementAt, source, operands, isRegister, isMemory, isClocked, Sourced}
 use Rattle.behaviour.specs.Run.{zeroWord}
 use Rattle.retiming.specs.Rewrite.{Timing, root, ownHere, memoryAt, stays}
 use Rattle.retiming.specs.Wires.{root-within}
@@ -186,15 +186,6 @@ other-wires (Register r) q = absurd (true≢false q)
 other-wires (Async m) q = refl
 other-wires (Clocked m r) q = refl
 other-wires (Gate o) q = refl
-
--- a ROM is asynchronous or clocked
-pub memory-sum : (e : Element) → one (isAsync e) + one (isClocked e) ≡ one (isMemory e)
-memory-sum Input = refl
-memory-sum Output = refl
-memory-sum (Register r) = refl
-memory-sum (Async m) = refl
-memory-sum (Clocked m r) = refl
-memory-sum (Gate o) = refl
 
 -- the clock of a ROM
 pub rom-some : (e : Element) (clock : ℕ) {n : ℕ} → n ≡ one (isMemory e) → n ≡ 1 → clock ≡ cond (isMemory e) clock 65535
