@@ -1,5 +1,5 @@
 -- "The largest lead": the largest excess of a walk, from wherever it goes. Assumes nothing.
-use mathlib.Core.Path.{_≡_, refl, subst, _∙_}
+use mathlib.Core.Path.{_≡_, refl, _∙_}
 use mathlib.Core.Logic.{_⊎_, inl, inr, ⊎-elim}
 use mathlib.Core.Bool.{true, false}
 use Prim.Native.Nat.{ℕ, _+_, _≤_, _<_, zero-le}
@@ -7,8 +7,8 @@ use native.Mathlib.Omega.{arith}
 use Rattle.lists.specs.Lists.{largest}
 use Rattle.lists.specs.BelowLaws.{true-or-false, largest-le, largest-is, largest-bound}
 use Rattle.netlist.specs.Net.{Net, size, elementAt, isRegister, Sourced}
-use Rattle.netlist.specs.Reach.{Reads}
 use Rattle.retiming.specs.Leads.{Walk, here, step, leaves, enters, lead, closedDebt}
+use Rattle.retiming.specs.Walks.{reads-inside}
 use Rattle.retiming.specs.LeadsLaws.{lead-bounds-walk, lead-reached}
 use Rattle.retiming.specs.Wires.{rom-zero}
 use Rattle.retiming.specs.Preview.{ownLead, largestLead}
@@ -41,10 +41,6 @@ module _ (N : Net) where
       (true-or-false (isRegister (elementAt N x)))
 
   module _ (sourced : Sourced N) (debtless : closedDebt N ≡ false) where
-    read-inside : {x u : ℕ} → Reads N x u → u < size N
-    unfolding Sourced
-    read-inside {x} r = subst (λ (k : ℕ). k < size N) (r .from) (sourced x (r .operand) (r .inside) (r .used))
-
     -- a walk from a register has no more excess than the rest of it
     all-bounded : (u v : ℕ) (w : Walk N u v) → leaves w ≤ enters w + largestLead N
     unfolding leaves enters
@@ -52,7 +48,7 @@ module _ (N : Net) where
     all-bounded u v (step {x = x} r w) =
         ⊎-elim
         (λ (t : isRegister (elementAt N u) ≡ true). let none = rom-zero N u t in let rest = all-bounded x v w in omega arith)
-        (λ (t : isRegister (elementAt N u) ≡ false). let b = lead-bounds-walk N sourced debtless (step r w) in let l = lead-within (read-inside r) t in omega arith)
+        (λ (t : isRegister (elementAt N u) ≡ false). let b = lead-bounds-walk N sourced debtless (step r w) in let l = lead-within (reads-inside sourced r) t in omega arith)
         (true-or-false (isRegister (elementAt N u)))
 
     pub largest-of-all : LargestOfAll N (largestLead N)

@@ -1,6 +1,6 @@
 -- The late start's timing serves the netlist where 11 and 12 do not apply: so the late-started netlist is alike to the old one, and has no asynchronous ROM.
 -- Assumes nothing.
-use mathlib.Core.Path.{_≡_, refl, sym, ap, _∙_, subst}
+use mathlib.Core.Path.{_≡_, refl, sym, ap, _∙_}
 use mathlib.Core.Logic.{⊎-elim}
 use mathlib.Core.Bool.{Bool, true, false, true≢false, false≢true}
 use Prim.Native.Nat.{ℕ, _≤_, _<_}
@@ -10,11 +10,12 @@ use borrow.Author.Tests.{lt-ltb, ltb-true}
 use Rattle.netlist.specs.declared.Element.{Element}
 use Rattle.netlist.specs.declared.Element.the-variants.{Input, Output, Register, Async, Clocked, Gate}
 use Rattle.lists.specs.BelowLaws.{true-or-false, lt-or-le, anyBelow-none}
-use Rattle.netlist.specs.Net.{Net, size, elementAt, operands, isInput, isOutput, Sourced}
+use Rattle.netlist.specs.Net.{Net, size, elementAt, operands, isInput, isOutput}
 use Rattle.netlist.specs.Reach.{Reads}
 use Rattle.netlist.specs.Checks.{WellFormed}
 use Rattle.behaviour.specs.Meaning.{settles}
 use Rattle.retiming.specs.Leads.{Walk, here, step}
+use Rattle.retiming.specs.Walks.{reads-inside}
 use Rattle.retiming.specs.Rewrite.{Timing}
 use Rattle.retiming.specs.LateLeads.{atOutput, lateEnds, origin, Counts, leadTo, closedDebtTo, owingPortTo, portDebtTo}
 use Rattle.retiming.specs.LateLeadsLaws.{lead-serves, lead-back, lead-reached, origin-positive, counts-lead, lead-unread}
@@ -78,10 +79,6 @@ module _ (N : Net) (ends : ℕ → Bool) (wf : WellFormed N) (e : Ends N ends) (
   reader-no-input : (x u : ℕ) → Reads N x u → isInput (elementAt N x) ≡ false
   reader-no-input x u r = ⊎-elim (λ t. absurd (omega (arith, r .used, input-idle (elementAt N x) t))) (λ t. t) (true-or-false (isInput (elementAt N x)))
 
-  source-inside : (x u : ℕ) → Reads N x u → u < size N
-  unfolding Sourced
-  source-inside x u r = subst (λ (k : ℕ). k < size N) (r .from) (wf .sourced x (r .operand) (r .inside) (r .used))
-
   timing-serves : ServesKept N f
   unfolding ServesKept
   timing-serves x u r k =
@@ -89,7 +86,7 @@ module _ (N : Net) (ends : ℕ → Bool) (wf : WellFormed N) (e : Ends N ends) (
       let pos : 0 < leadTo N ends x = kept-only x i k in (
         kept-if u (lead-back N ends (wf .sourced) debtless r pos),
         ⊎-elim
-            (λ t. omega (arith, lead-serves N ends (wf .sourced) debtless r pos, lead-other x i .0, lead-input u t .0, input-low u (source-inside x u r) t))
+            (λ t. omega (arith, lead-serves N ends (wf .sourced) debtless r pos, lead-other x i .0, lead-input u t .0, input-low u (reads-inside (wf .sourced) r) t))
             (λ t. omega (arith, lead-serves N ends (wf .sourced) debtless r pos, lead-other x i .0, lead-other u t .0)) (true-or-false (isInput (elementAt N u))),
       )
 
