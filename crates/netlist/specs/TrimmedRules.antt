@@ -4,10 +4,9 @@ use mathlib.Core.Bool.{true}
 use mathlib.Core.List.{List}
 use Prim.Native.Nat.{ℕ, _<_}
 use lib.ListN.{length}
-use Rattle.lists.specs.Lists.{one}
 use Rattle.netlist.specs.declared.Element.{Element}
 use Rattle.netlist.specs.declared.Element.the-variants.{Input, Output, Register, Async, Clocked, Gate}
-use Rattle.netlist.specs.Net.{Table, tableOf, Net, size, elementAt, widthAt, source, operands, Class, inClock, inRegisters, isInput, isOutput, isAsync, isMemory, Sourced}
+use Rattle.netlist.specs.Net.{Table, tableOf, Net, size, elementAt, widthAt, source, operands, Class, inClock, inRegisters, isInput, isOutput, isAsync, isMemory, holdsWord, Sourced}
 use Rattle.netlist.specs.Reach.{Reads}
 use Rattle.netlist.specs.Rank.{ReadsIn, Through, once, then}
 use Rattle.netlist.specs.Checks.{tableIn, ElementWidths, Fits, HasTable, HasTables, WidthsRight, HasReader, TableFits, WellFormed, TableHasReader}
@@ -23,6 +22,9 @@ blind-output = record { same = λ k e. elim e [ Input ↦ refl | Output ↦ refl
 
 pub blind-async : Blind isAsync
 blind-async = record { same = λ k e. elim e [ Input ↦ refl | Output ↦ refl | Register r ↦ refl | Async m ↦ refl | Clocked m r ↦ refl | Gate o ↦ refl ] }
+
+pub blind-holds : Blind holdsWord
+blind-holds = record { same = λ k e. elim e [ Input ↦ refl | Output ↦ refl | Register r ↦ refl | Async m ↦ refl | Clocked m r ↦ refl | Gate o ↦ refl ] }
 
 pub blind-operands : Blind operands
 blind-operands = record { same = λ k e. elim e [ Input ↦ refl | Output ↦ refl | Register r ↦ refl | Async m ↦ refl | Clocked m r ↦ refl | Gate o ↦ refl ] }

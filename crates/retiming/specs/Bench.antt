@@ -106,7 +106,7 @@ unfoldable pub clock : List ℕ → List ℕ → Clock
 clock ins outs = record { inputs = ins; outputs = outs }
 
 -- clocked ROMs, registers, length, largest lead, nodes that are no registers
-sized : ℕ → ℕ → ℕ → ℕ → ℕ → Preview
+unfoldable pub sized : ℕ → ℕ → ℕ → ℕ → ℕ → Preview
 sized c r n m k = Fits (record { clocked = c; registers = r; length = n; lead = m; sources = k })
 
 -- refused, and by the preview likewise
@@ -130,7 +130,7 @@ empty = record {
 }
 
 -- adder (document 000, figure 1): outputs 1,2,0,3,1. Leads: ROM 1, add 0. The field of its table stands in both files; the new one's length is n
-adderOver : List ℕ → ℕ → Case
+unfoldable pub adderOver : List ℕ → ℕ → Case
 adderOver table n = record {
   file =
       (0x01 ∷ 0x00 ∷ 0x01 ∷ 0x01 ∷ [])
@@ -157,7 +157,7 @@ adderOver table n = record {
 }
 
 -- its table 3, 1, 2, 2; and, T-02, the same as 3, 1 and the fill word 2
-adder : Case
+unfoldable pub adder : Case
 adder = adderOver (0x02 ∷ 0x00 ∷ 0x0A ∷ 0x02 ∷ 0x02 ∷ 0x00 ∷ 0x03 ∷ 0x00 ∷ 0x01 ∷ 0x00 ∷ 0x02 ∷ 0x00 ∷ 0x02 ∷ []) 65
 
 filledAdder : Case

@@ -61,7 +61,7 @@ module _ (N : Net) (ends : ℕ → Bool) (wf : WellFormed N) (e : Ends N ends) (
   unfolding timingTo timingToBy
   origin-is = refl
 
-  pub kept-if : (v : ℕ) → 0 < leadTo N ends v → f .keeps v ≡ true
+  kept-if : (v : ℕ) → 0 < leadTo N ends v → f .keeps v ≡ true
   kept-if v l = ⊎-elim (λ i. lead-input v i .1) (λ i. lead-other v i .1 ∙ lt-ltb 0 (leadTo N ends v) l) (true-or-false (isInput (elementAt N v)))
 
   kept-only : (v : ℕ) → isInput (elementAt N v) ≡ false → f .keeps v ≡ true → 0 < leadTo N ends v
@@ -127,3 +127,8 @@ module _ (N : Net) (wf : WellFormed N) (debtless : closedDebtTo N (lateEnds N) �
   pub late-retimes : Retimes N (lateTiming N)
   unfolding lateTiming
   late-retimes = retimes N (lateEnds N) wf (late-ends N) debtless portless
+
+  -- from which an output port can be reached
+  pub late-kept : (u : ℕ) → u < size N → Counts N (atOutput N) u → lateTiming N .keeps u ≡ true
+  unfolding lateTiming lateEnds
+  late-kept u h c = kept-if N (lateEnds N) wf (late-ends N) debtless portless u (counts-lead N (lateEnds N) (wf .sourced) debtless u h c)

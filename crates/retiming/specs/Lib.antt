@@ -47,6 +47,13 @@ pub mod DebtLaws
 pub mod Past
 pub mod NewFile
 pub mod Modes
+pub mod Lengths
+pub mod ComesFrom
+pub mod OperandsTell
+pub mod Accounts
+pub mod AsLong
+pub mod Followed
+pub mod SameWalks
 pub mod ModeLaws
 pub mod RewrittenFile
 pub mod Demand3
@@ -69,6 +76,10 @@ pub mod AnswerAlike
 pub mod LateDebtLaws
 pub mod LateStart
 pub mod LateRefusals
+pub mod KeptInFile
+pub mod SameNodes
+pub mod LoopLengths
 pub mod Computing
 pub mod Bench
 pub mod LateBench
+pub mod LengthsBench

@@ -26,10 +26,11 @@ use Rattle.retiming.specs.LateRewrite.{timingToBy, timingTo, lateTiming,
 use Rattle.retiming.specs.Gates.{gatedWith}
 use Rattle.retiming.specs.Debt.{grown, debtStages, debtVerdict}
 use Rattle.retiming.specs.LateDebt.{lateStages, lateVerdict}
+use Rattle.retiming.specs.Lengths.{NotLeftOut}
 use Rattle.retiming.specs.Candidate.{Retimes}
 use Rattle.retiming.specs.Retimed.{retimes, rewritten-is}
 use Rattle.retiming.specs.TablesKept.{rewritten-read}
-use Rattle.retiming.specs.LateRetimed.{late-retimes}
+use Rattle.retiming.specs.LateRetimed.{late-retimes, late-kept}
 use Rattle.retiming.specs.ThreeChecks.{says-fine-only}
 use Rattle.retiming.specs.PastDebt.{no-port}
 use Rattle.retiming.specs.Modes.{modeClosed, modeOwing, modeTiming, modeTrimmed, modeNet, modeVerdict}
@@ -104,6 +105,12 @@ module _ (N : Net) (wf : WellFormed N) where
   unfolding portDebt portDebtTo
   mode-suits Plain debtless none = record { retimes = retimes N wf debtless (no-port (size N) (modeOwing Plain N) none); low = plain-low; few = plain-few debtless; keeps-all = λ z. plain-keeps; keeps-late = λ o. absurd (omega (arith, plain-origin)) }
   mode-suits Late debtless none = record { retimes = late-retimes N wf debtless (no-port (size N) (modeOwing Late N) none); low = late-low; few = late-few debtless; keeps-all = λ z. absurd (omega (arith, late-origin)); keeps-late = λ o. late-keeps }
+
+  -- what is not left out stays
+  pub mode-keeps : (mode : Mode) → modeClosed mode N ≡ false → ((v : ℕ) → v < size N → modeOwing mode N v ≡ false) → (u : ℕ) → NotLeftOut mode N u → u < size N → modeTiming mode N .keeps u ≡ true
+  unfolding portDebtTo
+  mode-keeps Plain debtless none u c h = plain-keeps u
+  mode-keeps Late debtless none u c h = late-kept N wf debtless (no-port (size N) (modeOwing Late N) none) u h c
 
   pub mode-net : (mode : Mode) → modeClosed mode N ≡ false → ((v : ℕ) → v < size N → modeOwing mode N v ≡ false)
       → modeTrimmed mode (gatedWith N (modeTiming mode N) (zeroWord N)) ≡ modeNet mode N

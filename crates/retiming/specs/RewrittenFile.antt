@@ -83,14 +83,14 @@ module _ (mode : Mode) (s : List ℕ) (b : Bytes s) (t : Past13 mode s) where
   old-within : Within N
   old-within = decode-within s N b (t .file .reads)
 
-  old-fine : WellFormed N
+  pub old-fine : WellFormed N
   old-fine = reader-fine N (old-within .fields) (t .file .fine)
 
-  suits : Suits N (modeTiming mode N)
+  pub suits : Suits N (modeTiming mode N)
   suits = let d = mode-clear mode N (t .debtless) in mode-suits N old-fine mode (d .0) (d .1)
 
   -- with the tables that no node of it reads, and without them
-  abbrev gated : Net
+  abbrev pub gated : Net
   gated = gatedWith N (modeTiming mode N) (zeroWord N)
 
   few-nodes : Bounds gated
@@ -101,7 +101,7 @@ module _ (mode : Mode) (s : List ℕ) (b : Bytes s) (t : Past13 mode s) where
   gated-alike : Alike N gated
   gated-alike = retimed-alike N old-fine (modeTiming mode N) (suits .retimes) few-nodes
 
-  net-is : trimmed gated ≡ modeNet mode N
+  pub net-is : trimmed gated ≡ modeNet mode N
   net-is = let d = mode-clear mode N (t .debtless) in mode-left N old-fine mode (d .0) (d .1) (reader-tables N (t .file .fine)) (gated-alike .new)
 
   pub netlists-alike : Alike N (modeNet mode N)
