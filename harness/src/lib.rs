@@ -27,6 +27,7 @@ pub mod simulate;
 pub mod spelled_out;
 pub mod stack;
 pub mod vectors;
+pub mod walks;
 pub mod workloads;
 
 pub use checks::check;

@@ -2,24 +2,9 @@
 
 use harness::checks::checked;
 use harness::late::retimed;
-use harness::netlist::{Kind, Node, Table};
+use harness::netlist::Table;
 use harness::random::{self, Random};
-
-/// From which nodes an output port can be reached, one step of the walks at a time.
-fn reaching(nodes: &[Node]) -> Vec<bool> {
-    let mut reaching: Vec<bool> = nodes.iter().map(|n| n.kind == Kind::Output).collect();
-    loop {
-        let before = reaching.clone();
-        for (node, _) in nodes.iter().zip(&before).filter(|(_, reaches)| **reaches) {
-            for &source in node.sources() {
-                reaching[usize::from(source)] = true;
-            }
-        }
-        if reaching == before {
-            return reaching;
-        }
-    }
-}
+use harness::walks::reaching_outputs;
 
 #[test]
 fn tables_of_roms_that_reach_an_output_port_stay() {
@@ -36,7 +21,7 @@ fn tables_of_roms_that_reach_an_output_port_stay() {
         };
         compared += 1;
         let nodes = &old.netlist.nodes;
-        let reaching = reaching(nodes);
+        let reaching = reaching_outputs(nodes);
         let stays = |number: usize| nodes[number].kind.is_rom() && reaching[number];
         let reads = |table: usize| {
             let mut roms = (0..nodes.len()).filter(|&number| stays(number));
