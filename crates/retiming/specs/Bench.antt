@@ -343,7 +343,7 @@ adder-offsets = refl
 
 -- ---- and not for the first clocks alone: demand 3, for instance of the adder
 
-byte-list : (s : List ℕ) → allBelow (length s) (λ i. ltb (getD s i 0) 256) ≡ true → Bytes s
+pub byte-list : (s : List ℕ) → allBelow (length s) (λ i. ltb (getD s i 0) 256) ≡ true → Bytes s
 byte-list s t i =
     ⊎-elim (λ h. ltb-true (getD s i 0) 256 (allBelow-elim (length s) (λ j. ltb (getD s j 0) 256) t i h)) (λ (h : length s ≤ i). rw (List·getD-eq-default s 0 h) (lit< tt)) (lt-or-le i (length s))
 

@@ -1,5 +1,5 @@
 -- T-07 by computation: the adder's loop, and from port to port of the netlist with the not gate, late-started. Assumes nothing.
-use mathlib.Core.Path.{_≡_, refl}
+use mathlib.Core.Path.{_≡_, refl, _∙_}
 use mathlib.Core.List.{List, [], _∷_, map}
 use Prim.Native.Nat.{ℕ}
 use lib.Dec.{lit<}
@@ -12,7 +12,8 @@ use Rattle.retiming.specs.FileRewrite.{rewrittenFile}
 use Rattle.retiming.specs.LateFile.{lateFile}
 use Rattle.retiming.specs.Lengths.{latency, pin, pins, itself, comesFromBy, comesFrom}
 use Rattle.retiming.specs.Computing.{computing}
-use Rattle.retiming.specs.Bench.{clock, sized, refused, adder, adderOver, turned}
+use Rattle.retiming.specs.LoopLengths.{loops-keep-their-length}
+use Rattle.retiming.specs.Bench.{clock, sized, refused, adder, adderOver, turned, byte-list}
 
 unfoldable netIn : List ℕ → Net
 netIn s = decodedNet (decode s)
@@ -53,6 +54,13 @@ adder-loop : (pins (itself old) oldLoop ≡ pin 0 1 ∷ pin 1 2 ∷ [])
     × (latency newLoop ≡ 1)
 unfolding computing netIn old new oldLoop newLoop comesFromBy itself pins latency
 adder-loop = (refl, refl, refl, refl)
+
+-- and whatever closed walk of the new file goes through these operands
+adder-kept : (i : ℕ) (z : Walk new i i) → pins (comesFrom Plain old) z ≡ pins (itself old) oldLoop → latency z ≡ 1
+unfolding computing netIn old new adder adderOver clock sized
+adder-kept i z e =
+    let kept = loops-keep-their-length Plain (adder .file) (rewrittenFile (adder .file)) (byte-list (adder .file) refl) refl refl old new refl refl .loops 0 oldLoop tt in
+    kept .as-long i z e ∙ adder-loop .2
 
 -- ---- input, asynchronous ROM, not, register, output, late-started
 
