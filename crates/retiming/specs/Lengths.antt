@@ -58,7 +58,7 @@ comesFromBy N f Z i = getD (map cameFrom (spots N f Z)) i []
 abbrev pub comesFrom : Mode → Net → ℕ → List ℕ
 comesFrom mode N = comesFromBy N (modeTiming mode N) (zeroWord N)
 
--- "the same nodes": node i of the new netlist is node u of the old one; a ROM is clocked, with some number of its table and some reset word
+-- "the same nodes": node i of the new netlist is node u of the old one; a ROM is clocked, its table may have another number, and it has a reset word
 pub record SameNode (N M : Net) (u i : ℕ) : Type 0 where
   pub inside : i < size M
   pub width : widthAt M i ≡ widthAt N u

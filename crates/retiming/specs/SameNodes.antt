@@ -1,6 +1,6 @@
--- Which node of the new file is which of the old one, of every file that a mode accepts: what `comesFrom` means. A node that comes from u is u, a ROM clocked; what
--- comes from none is a register or an added constant or gate; and every node but a register that can reach what the mode keeps comes up. So "the same nodes" of T-07
--- are no others. `s` is the old file and `N` its netlist, `s′` the new file and `M` its netlist. Assumes nothing.
+-- Which node of the new file is which of the old one, of every file that a mode accepts: what `comesFrom` means, and so "the same nodes" of T-07. A node that comes
+-- from u has u's element, a ROM clocked, and u's width; what comes from none is a register, a constant or a choose gate; and each node that is no register and is not
+-- left out has one that comes from it. `s` is the old file and `N` its netlist, `s′` the new file and `M` its netlist. Assumes nothing.
 use mathlib.Core.Path.{_≡_}
 use mathlib.Core.Bool.{false}
 use mathlib.Core.List.{List, [], _∷_}
