@@ -6,6 +6,7 @@ use std::collections::BTreeSet;
 
 use harness::checks::{checked, Checked};
 use harness::design::Design;
+use harness::leads::chains;
 use harness::netlist::{Kind, Node};
 use harness::random::{self, Random};
 use harness::refusal::Refusal;
@@ -38,8 +39,8 @@ struct Tally {
     repeating: usize,
     split: usize,
     gated: usize,
-    /// Walks on which other nodes count than before.
-    moved: usize,
+    /// Walks that pass an asynchronous ROM, which counts in the new file alone.
+    asynchronous: usize,
     left_out: usize,
 }
 
@@ -62,7 +63,7 @@ fn netlists(services: &Services) {
     for (mode, tally) in ["plainly", "late"].into_iter().zip(&tallies) {
         println!("rewritten {mode}: {tally:?}");
         assert!(tally.loops > 2_000 && tally.paths > 2_000 && tally.repeating > 500);
-        assert!(tally.split > 100 && tally.moved > 500);
+        assert!(tally.split > 100 && tally.asynchronous > 500);
     }
     let [plain, late] = &tallies;
     assert!((plain.gated, plain.left_out) == (0, 0));
@@ -114,7 +115,7 @@ impl Tally {
         self.repeating += usize::from(entered.len() < walk.pins.len());
         self.split += usize::from(through.iter().any(|pin| copies(pin) > 1));
         self.gated += usize::from(found.gated);
-        self.moved += usize::from(through.iter().any(asynchronous));
+        self.asynchronous += usize::from(through.iter().any(asynchronous));
     }
 }
 
@@ -147,12 +148,25 @@ fn the_adders_loop() {
     }
 }
 
-/// A register more, or another operand, on the way of a walk is noticed.
+/// The new netlist with a change at each node that comes from the old one.
+fn changed(
+    ways: &Ways,
+    new: &[Node],
+    old: u16,
+    change: impl Fn(&mut Vec<Node>, usize),
+) -> Vec<Node> {
+    let mut nodes = new.to_vec();
+    let copies = (0..new.len()).filter(|&n| ways.comes_from[n] == Some(old));
+    copies.for_each(|copy| change(&mut nodes, copy));
+    nodes
+}
+
+/// A register more on the way of a walk, and operands in each other's place, are noticed.
 #[test]
 fn wrong_files_are_noticed() {
     let mut random = Random::new(51);
     let [mut longer, mut elsewhere] = [0; 2];
-    while longer < 200 || elsewhere < 200 {
+    for _ in 0..2_000 {
         let file = random::netlist(&mut random).file();
         let old = checked(&file).expect("it passes the reader");
         let nodes = &old.netlist.nodes;
@@ -162,35 +176,35 @@ fn wrong_files_are_noticed() {
         let Some(walk) = Walk::closed(&mut random, nodes) else {
             continue;
         };
-        let through = walk.through(nodes);
-        let pin = through[random.below(through.len())];
-        let ways = Ways::new(&old, &retimed, &retimed.netlist.nodes);
-        let copies = |n: &usize| ways.comes_from[*n] == Some(pin.node);
-        let copies: Vec<usize> = (0..ways.comes_from.len()).filter(copies).collect();
-        let good = ways.along(&walk, nodes).lengths;
+        let new = &retimed.netlist.nodes;
+        let ways = Ways::new(&old, &retimed, new);
+        let Pin { node, operand } = random.pick(&walk.through(nodes));
+        let along = |new: &[Node]| Ways::new(&old, &retimed, new).along(&walk, nodes).lengths;
 
-        // A register before the operand.
-        let mut changed = retimed.netlist.nodes.clone();
-        for &copy in &copies {
-            let register = changed.len() as u16;
-            let mut node = changed[copy];
-            node.kind = Kind::Register;
-            node.sources = [changed[copy].sources[pin.operand], 0, 0];
-            changed.push(node);
-            changed[copy].sources[pin.operand] = register;
-        }
-        let found = Ways::new(&old, &retimed, &changed).along(&walk, nodes);
-        assert!(found.lengths != good && !found.lengths.is_empty());
+        let with_register = changed(&ways, new, node, |nodes, copy| {
+            let mut register = nodes[copy];
+            register.kind = Kind::Register;
+            register.sources = [nodes[copy].sources[operand], 0, 0];
+            nodes[copy].sources[operand] = nodes.len() as u16;
+            nodes.push(register);
+        });
+        let length = along(&with_register).into_iter().min().expect("a walk");
+        assert!(length > walk.length(nodes), "{}", hex(&file));
         longer += 1;
 
-        // Its first two operands in each other's place.
-        if nodes[usize::from(pin.node)].kind.fan_in() > 1 && pin.operand < 2 {
-            let mut changed = retimed.netlist.nodes.clone();
-            for &copy in &copies {
-                changed[copy].sources.swap(0, 1);
-            }
-            let found = Ways::new(&old, &retimed, &changed).along(&walk, nodes);
-            elsewhere += usize::from(found.lengths != good);
+        // Where the two operands come from different nodes, the walk is there no more.
+        let [first, second, _] = nodes[usize::from(node)].sources;
+        let chains = chains(&old);
+        let origin = |source: u16| chains[usize::from(source)].origin;
+        let two = nodes[usize::from(node)].kind.fan_in() > 1 && operand < 2;
+        if two && origin(first) != origin(second) {
+            let swapped = changed(&ways, new, node, |nodes, copy| {
+                nodes[copy].sources.swap(0, 1)
+            });
+            assert!(along(&swapped).is_empty(), "{}", hex(&file));
+            elsewhere += 1;
         }
     }
+    println!("{longer} walks with a register more, {elsewhere} with operands that changed places");
+    assert!(longer > 300 && elsewhere > 100);
 }

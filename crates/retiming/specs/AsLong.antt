@@ -69,7 +69,7 @@ module _ (N : Net) (f : Timing) (Z : ℕ → ℕ → ℕ) (ok : Retimes N f) whe
   unfolding carries ahead behind
   entry-at u i e = let k = entry-only N f Z u i e .1 in (ap carries (k .1), ap (ahead f) (k .1), ap (behind N) (k .1))
 
-  -- a port runs on time, and no register stands at it
+  -- what is no register and no ROM, as a port, adds nothing at the end of a walk
   level : (u : ℕ) → isRegister (elementAt N u) ≡ false → isMemory (elementAt N u) ≡ false → (passed N u ≡ 0) × (asyncHere N u ≡ 0)
   unfolding asyncHere
   level u r m = (wire-none N u r .1, omega (arith, memory-kinds (elementAt N u), ap one m))
