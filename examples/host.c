@@ -1,5 +1,5 @@
-/* Previews and rewrites a small netlist with an asynchronous ROM into one with a clocked ROM, and runs both side by side for five clocks;
- * then does so with a ROM straight behind a sensor's port, which only the late start accepts. */
+/* Previews and rewrites a small netlist with an asynchronous ROM into one with a clocked ROM, and runs both side by side for five clocks, then each by
+ * a list of five clocks in one call; then does so with a ROM straight behind a sensor's port, which only the late start accepts. */
 #include <stdio.h>
 #include <string.h>
 
@@ -46,6 +46,42 @@ static int refused(const char *call, uint32_t answer)
     if (PUNQELIS_IS_REFUSED(answer)) {
         printf("%s: refused %u %u\n", call, (unsigned)PUNQELIS_REFUSAL(answer),
                (unsigned)PUNQELIS_PLACE(answer));
+        return 1;
+    }
+    return 0;
+}
+
+/* The adder by lists from reset on. Six clocks are refused, since the outputs have five rows, and
+ * change nothing; five are run. Tells whether something is not as it should be. */
+static int adder_list(const uint8_t *file, size_t file_len, uint8_t *state, size_t state_len)
+{
+    static const uint8_t expected[10] = {0, 1, 0, 2, 0, 0, 0, 3, 0, 1};
+    static const uint8_t untouched[10] = {0};
+    const uint8_t no_inputs[1] = {0};
+    uint8_t outputs[10] = {0};
+    uint8_t reset_state[6]; /* no file's state here is longer */
+    uint32_t answer;
+
+    if (refused("reset", punqelis_reset(file, file_len, state, state_len)))
+        return 1;
+    memcpy(reset_state, state, state_len);
+    answer = punqelis_run_list(file, file_len, state, state_len,
+                               no_inputs, 0, outputs, sizeof outputs, 6);
+    if (!refused("list of 6 clocks", answer) || PUNQELIS_REFUSAL(answer) != 15
+        || memcmp(state, reset_state, state_len) != 0
+        || memcmp(outputs, untouched, sizeof outputs) != 0) {
+        printf("not refused with 15, or something changed\n");
+        return 1;
+    }
+
+    answer = punqelis_run_list(file, file_len, state, state_len,
+                               no_inputs, 0, outputs, sizeof outputs, 5);
+    if (refused("list of 5 clocks", answer))
+        return 1;
+    printf("list of 5 clocks: %u %u %u %u %u\n", (unsigned)outputs[1], (unsigned)outputs[3],
+           (unsigned)outputs[5], (unsigned)outputs[7], (unsigned)outputs[9]);
+    if (answer != 0 || memcmp(outputs, expected, sizeof outputs) != 0) {
+        printf("not the expected outputs\n");
         return 1;
     }
     return 0;
@@ -164,5 +200,8 @@ int main(void)
             return 1;
         }
     }
+    if (adder_list(old_file, sizeof old_file, old_state, sizeof old_state)
+        || adder_list(new_file, new_len, new_state, sizeof new_state))
+        return 1;
     return sensor();
 }

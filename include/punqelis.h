@@ -7,7 +7,8 @@
  * Link with libpunqelis.a, which `rt staticlib punqelis` writes to target/staticlib/.
  *
  * Every function answers one number, the preview four more beside it:
- *   below 65,536   accepted, and the number is a length in bytes (see each function);
+ *   below 65,536   accepted, and the number is a length in bytes (see each function), but 0 for a
+ *                  list of runs, whose outputs can have more bytes than that;
  *   from 65,536 on refused, and the number is the refusal's number times 65,536 plus its place.
  * PUNQELIS_IS_REFUSED and the two macros after it take an answer apart.
  *
@@ -15,7 +16,8 @@
  *   state    one word for each register and clocked ROM, in the order of their node numbers;
  *   inputs   one word for each input port, in the order of their node numbers;
  *   outputs  one word for each output port, in the order of their node numbers.
- * Their lengths must be exact. Each word must be below 2 to the power of its node's width.
+ * Their lengths must be exact. Each word must be below 2 to the power of its node's width. A list
+ * of runs has such inputs and such outputs for each clock: a row, each right behind the one before.
  *
  * Memory. The caller lends the memory that is read and written; none of it is kept after a call.
  * A pointer must not be NULL, also where its length is 0. Memory that a function writes (state,
@@ -44,7 +46,8 @@
  *   13 grown        the rewritten netlist has over 1,024 nodes            place 65,535
  *   14 out          the output is shorter than the rewritten file;        place 65,535
  *                   of the preview: by_source is too short
- *   15 words        inputs or outputs do not fit the file                 place 65,535
+ *   15 words        inputs or outputs do not fit the file;                place 65,535
+ *                   of a list of runs: or are not exactly clocks rows
  *   16 state        the state does not fit the file                       place 65,535
  */
 #ifndef PUNQELIS_H
@@ -81,6 +84,21 @@ uint32_t punqelis_run(const uint8_t *file, size_t file_len,
                       uint8_t *state, size_t state_len,
                       const uint8_t *inputs, size_t inputs_len,
                       uint8_t *outputs, size_t outputs_len);
+
+/* Runs a list of clocks in one call, which reads and checks the file once: as punqelis_run would
+ * one clock after the other over the state, each with the next row of the inputs and of the
+ * outputs. A row has two bytes for each input port, or for each output port; with no such ports it
+ * has none. Checks 1 to 10, then by 15 whether the inputs are exactly clocks rows of words that fit
+ * and the outputs exactly clocks rows, then the state by 16. All or nothing: a refused list is no
+ * clock at all, and has changed neither the state nor the outputs. Answers 0.
+ * clocks may be 0: the inputs and outputs must then be empty, and a state that fits stays.
+ * A call takes time in proportion to clocks. Of a netlist with no ports at all every number of
+ * clocks is accepted, since no row tells otherwise, and takes its time. */
+uint32_t punqelis_run_list(const uint8_t *file, size_t file_len,
+                           uint8_t *state, size_t state_len,
+                           const uint8_t *inputs, size_t inputs_len,
+                           uint8_t *outputs, size_t outputs_len,
+                           size_t clocks);
 
 /* Rewrites a file: writes to out a file whose ROMs are all clocked and which gives the same
  * outputs from the first clock after reset on. Checks 1 to 10, then 11 to 14. Answers the new

@@ -2,8 +2,8 @@
 //! and what it takes to hold the product against it: random netlists, test vectors, and the
 //! product's C interface.
 //!
-//! Lower layer: [`netlist`], [`format`] and [`checks`]. Above it: [`simulate`], [`rewrite`],
-//! [`late`] and [`preview`].
+//! Lower layer: [`netlist`], [`format`] and [`checks`]. Above it: [`simulate`], [`run_list`],
+//! [`rewrite`], [`late`] and [`preview`].
 
 pub mod checks;
 pub mod copies;
@@ -22,10 +22,12 @@ pub mod product;
 pub mod random;
 pub mod refusal;
 pub mod rewrite;
+pub mod run_list;
 pub mod side_by_side;
 pub mod simulate;
 pub mod spelled_out;
 pub mod stack;
+pub mod stepping;
 pub mod vectors;
 pub mod walks;
 pub mod workloads;
@@ -35,6 +37,7 @@ pub use late::rewrite_late;
 pub use preview::{preview, Size};
 pub use refusal::{Answer, Refusal};
 pub use rewrite::rewrite;
+pub use run_list::run_list;
 pub use simulate::{reset, run};
 
 /// A service on a file: the check.
@@ -45,12 +48,15 @@ pub type Preview = fn(&[u8], &mut [u8]) -> Result<Size, Refusal>;
 pub type OnBytes = fn(&[u8], &mut [u8]) -> Answer;
 /// A service on a file, its state, inputs and outputs: the run.
 pub type OneClock = fn(&[u8], &mut [u8], &[u8], &mut [u8]) -> Answer;
+/// The same with a row of inputs and of outputs for each clock, and the clocks: the list of runs.
+pub type ListOfClocks = fn(&[u8], &mut [u8], &[u8], &mut [u8], usize) -> Answer;
 
 /// The services that one side offers: the harness or the product.
 pub struct Services {
     pub check: Check,
     pub reset: OnBytes,
     pub run: OneClock,
+    pub run_list: ListOfClocks,
     pub rewrite: OnBytes,
     pub rewrite_late: OnBytes,
     pub preview: Preview,
@@ -61,6 +67,7 @@ pub const OWN: Services = Services {
     check,
     reset,
     run,
+    run_list,
     rewrite,
     rewrite_late,
     preview,

@@ -32,6 +32,18 @@ extern "C" {
         outputs: *mut u8,
         outputs_len: usize,
     ) -> u32;
+    #[cfg(feature = "run")]
+    fn punqelis_run_list(
+        file: *const u8,
+        file_len: usize,
+        state: *mut u8,
+        state_len: usize,
+        inputs: *const u8,
+        inputs_len: usize,
+        outputs: *mut u8,
+        outputs_len: usize,
+        clocks: usize,
+    ) -> u32;
     #[cfg(feature = "rewrite")]
     fn punqelis_rewrite(file: *const u8, file_len: usize, out: *mut u8, out_len: usize) -> u32;
     #[cfg(feature = "rewrite")]
@@ -51,6 +63,7 @@ pub const SERVICES: Services = Services {
     check,
     reset,
     run,
+    run_list,
     rewrite,
     rewrite_late,
     preview,
@@ -82,6 +95,32 @@ pub fn run(file: &[u8], state: &mut [u8], inputs: &[u8], outputs: &mut [u8]) -> 
             outputs.len(),
         )
     })
+}
+
+/// An accepted list is answered by 0: its outputs may be longer than a length below 65,536 tells.
+#[cfg(feature = "run")]
+pub fn run_list(
+    file: &[u8],
+    state: &mut [u8],
+    inputs: &[u8],
+    outputs: &mut [u8],
+    clocks: usize,
+) -> Answer {
+    let number = answer(unsafe {
+        punqelis_run_list(
+            file.as_ptr(),
+            file.len(),
+            state.as_mut_ptr(),
+            state.len(),
+            inputs.as_ptr(),
+            inputs.len(),
+            outputs.as_mut_ptr(),
+            outputs.len(),
+            clocks,
+        )
+    })?;
+    assert_eq!(number, 0, "no answer to a list of runs");
+    Ok(outputs.len())
 }
 
 #[cfg(feature = "rewrite")]

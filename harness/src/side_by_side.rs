@@ -1,11 +1,11 @@
 //! A file and those rewritten from it, side by side from reset on: each runs over its own state,
-//! all with the same entries, and nothing but the state tells them apart.
+//! all with the same entries and lists, and nothing but the state tells them apart.
 
 use crate::checks::checked;
 use crate::format::MAX_FILE;
 use crate::lent::Lent;
 use crate::netlist::Kind;
-use crate::random::{Entry, Random};
+use crate::random::{Entry, List, Random};
 use crate::simulate::state_len;
 use crate::{hex, Answer, Refusal, Services};
 
@@ -48,16 +48,30 @@ pub struct SideBySide<'s> {
 }
 
 impl SideBySide<'_> {
-    /// One run of each file. All give the same answer and the same outputs; beside a refusal all
-    /// that was lent stays. Gives the answer and the outputs.
+    /// One run of each file. Gives the answer and the outputs.
     pub fn run(&mut self, random: &mut Random, entry: &Entry) -> (Answer, Vec<u8>) {
+        self.each(random, entry, self.services.run)
+    }
+
+    /// The list in one call for each file. Gives the answer and the outputs.
+    pub fn run_list(&mut self, random: &mut Random, list: &List) -> (Answer, Vec<u8>) {
+        self.each(random, &list.rows, list.call(self.services.run_list))
+    }
+
+    /// One call for each file. All give the same answer and the same outputs; beside a refusal all
+    /// that was lent stays.
+    fn each(
+        &mut self,
+        random: &mut Random,
+        entry: &Entry,
+        call: impl Fn(&[u8], &mut [u8], &[u8], &mut [u8]) -> Answer,
+    ) -> (Answer, Vec<u8>) {
         let lent = Lent::random(random, entry.outputs_len);
         let mut first = None;
         for (file, state) in self.files.iter().zip(&mut self.states) {
             let mut outputs = lent.clone();
             let before = state.clone();
-            let run = self.services.run;
-            let answer = run(file, state.slice(), &entry.inputs, outputs.slice());
+            let answer = call(file, state.slice(), &entry.inputs, outputs.slice());
             if answer.is_err() {
                 let stay = *state == before && outputs == lent;
                 assert!(stay, "{answer:?}, lent bytes changed: {}", hex(file));

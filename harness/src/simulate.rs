@@ -58,6 +58,16 @@ pub fn run_checked(
     Ok(outputs.len())
 }
 
+/// Whether there is one word for each input port and all fit.
+pub fn inputs_fit(checked: &Checked, inputs: &[u8]) -> bool {
+    fit(&checked.netlist.nodes, |kind| kind == Kind::Input, inputs)
+}
+
+/// Whether there is one word for each register and clocked ROM and all fit.
+pub fn state_fits(checked: &Checked, state: &[u8]) -> bool {
+    fit(&checked.netlist.nodes, Kind::is_clocked, state)
+}
+
 pub fn state_len(checked: &Checked) -> usize {
     bytes(&checked.netlist.nodes, Kind::is_clocked)
 }
@@ -121,6 +131,10 @@ fn load(nodes: &[Node], chosen: impl Fn(Kind) -> bool, words: &[u8], values: &mu
         }
     }
     rest.is_empty()
+}
+
+fn fit(nodes: &[Node], chosen: impl Fn(Kind) -> bool, words: &[u8]) -> bool {
+    load(nodes, chosen, words, &mut vec![0; nodes.len()])
 }
 
 fn store(bytes: &mut [u8], words: impl Iterator<Item = u16>) {

@@ -6,7 +6,7 @@ use harness::format;
 use harness::netlist::{Kind, Netlist, Node};
 use harness::previewed::{compare_preview, Previewed};
 use harness::simulate::{outputs_len, state_len};
-use harness::{Answer, OnBytes, OneClock, Preview, Refusal};
+use harness::{Answer, ListOfClocks, OnBytes, OneClock, Preview, Refusal};
 
 const REWRITERS: &[OnBytes] = &[
     harness::rewrite,
@@ -26,10 +26,14 @@ const PREVIEWS: &[(&str, Preview)] = &[
     ("product", harness::product::preview),
 ];
 
-const RUNS: &[(OnBytes, OneClock)] = &[
-    (harness::reset, harness::run),
+const RUNS: &[(OnBytes, OneClock, ListOfClocks)] = &[
+    (harness::reset, harness::run, harness::run_list),
     #[cfg(feature = "run")]
-    (harness::product::reset, harness::product::run),
+    (
+        harness::product::reset,
+        harness::product::run,
+        harness::product::run_list,
+    ),
 ];
 
 const NO_INPUTS: &[u8] = &[];
@@ -68,17 +72,23 @@ fn preview_is(file: &[u8], expected: Result<Previewed, Refusal>) {
     }
 }
 
-/// Runs a file with one output port from reset, with the inputs, and compares the outputs.
+/// Runs a file with one output port from reset, with the inputs, one by one and in one list, and
+/// compares the outputs.
 fn outputs_are(file: &[u8], inputs: &[&[u8]], outputs: &[u16]) {
     let checked = checked(file).expect("accepted");
-    for (reset, run) in RUNS {
+    for (reset, run, run_list) in RUNS {
         let mut state = vec![0; state_len(&checked)];
         assert_eq!(reset(file, &mut state), Ok(state.len()));
+        let mut listed = state.clone();
         for (inputs, expected) in inputs.iter().zip(outputs) {
             let mut output = vec![0; outputs_len(&checked)];
             assert_eq!(run(file, &mut state, inputs, &mut output), Ok(output.len()));
             assert_eq!(output, expected.to_be_bytes());
         }
+        let all: Vec<u8> = outputs.iter().flat_map(|word| word.to_be_bytes()).collect();
+        let mut rows = vec![0; all.len()];
+        let answer = run_list(file, &mut listed, &inputs.concat(), &mut rows, inputs.len());
+        assert_eq!((answer, rows, listed), (Ok(all.len()), all, state));
     }
 }
 

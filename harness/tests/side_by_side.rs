@@ -1,8 +1,9 @@
-//! Old files and those rewritten in both modes, side by side from reset on, with the same entries,
-//! refused ones among them: through the harness's own implementation and through the product alone.
+//! Old files and those rewritten in both modes, side by side from reset on, with the same entries
+//! and lists of runs, refused ones among them: through the harness's own implementation and through
+//! the product alone.
 
 use harness::checks::checked;
-use harness::random::{self, Entry, Random};
+use harness::random::{self, Entry, List, Random};
 use harness::refusal::{GROWN, WORDS};
 use harness::{Services, OWN};
 
@@ -93,8 +94,9 @@ fn late_netlists(services: &Services) {
 struct Tally {
     old_files: usize,
     new_files: usize,
-    runs: usize,
-    refused: usize,
+    /// Runs, and lists of runs.
+    calls: [usize; 2],
+    refused: [usize; 2],
 }
 
 impl Tally {
@@ -102,12 +104,15 @@ impl Tally {
         let Tally {
             old_files,
             new_files,
-            runs,
+            calls,
             refused,
         } = self;
-        println!("{name}: {old_files} with {new_files} rewritten ones, {runs} runs of each,");
-        println!("{name}: {refused} of them refused");
-        assert!(*new_files > *old_files && *refused > *runs / 20 && *refused < *runs / 2);
+        println!("{name}: {old_files} with {new_files} rewritten ones");
+        assert!(*new_files > *old_files);
+        for (what, (calls, refused)) in ["runs", "lists"].iter().zip(calls.iter().zip(refused)) {
+            println!("{name}: {calls} {what} of each, {refused} of them refused");
+            assert!(*refused > *calls / 20 && *refused < *calls / 2);
+        }
     }
 }
 
@@ -130,18 +135,24 @@ fn run(
     let mut side_by_side = services.side_by_side(random, files);
     let mut last_outputs = Vec::new();
     for _ in 0..clocks {
-        let mut entry = Entry::any(random, &netlist);
-        if random.chance(10) {
-            // Inputs may come from earlier outputs.
-            entry.inputs.clone_from(&last_outputs);
-        }
-        let (answer, outputs) = side_by_side.run(random, &entry);
-        tally.runs += 1;
+        let is_list = random.chance(10);
+        let (answer, outputs) = if is_list {
+            let list = List::any(random, &netlist);
+            side_by_side.run_list(random, &list)
+        } else {
+            let mut entry = Entry::any(random, &netlist);
+            if random.chance(10) {
+                // Inputs may come from earlier outputs.
+                entry.inputs.clone_from(&last_outputs);
+            }
+            side_by_side.run(random, &entry)
+        };
+        tally.calls[usize::from(is_list)] += 1;
         match answer {
             Ok(_) => last_outputs = outputs,
             Err(refusal) => {
                 assert_eq!(refusal.number, WORDS, "only 15 can come up");
-                tally.refused += 1;
+                tally.refused[usize::from(is_list)] += 1;
             }
         }
     }

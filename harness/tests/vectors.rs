@@ -5,7 +5,7 @@ use harness::format::MAX_FILE;
 use harness::previewed::compare_preview;
 use harness::simulate::{outputs_len, state_len};
 use harness::vectors::{self, Run, Vector};
-use harness::{Check, OnBytes, OneClock, Preview, Refusal};
+use harness::{Check, ListOfClocks, OnBytes, OneClock, Preview, Refusal};
 
 #[cfg(feature = "check")]
 use harness::product;
@@ -18,6 +18,11 @@ fn own_check() {
 #[test]
 fn own_run() {
     run(harness::reset, harness::run);
+}
+
+#[test]
+fn own_run_list() {
+    run_list(harness::run_list);
 }
 
 #[test]
@@ -45,6 +50,12 @@ fn product_check() {
 #[cfg(feature = "run")]
 fn product_run() {
     run(product::reset, product::run);
+}
+
+#[test]
+#[cfg(feature = "run")]
+fn product_run_list() {
+    run_list(product::run_list);
 }
 
 #[test]
@@ -125,6 +136,38 @@ fn run(reset: OnBytes, run: OneClock) {
         }
     }
     println!("{clocks} clocks and {refused} refused runs");
+    assert!(clocks > 0);
+}
+
+/// The runs of a trace that are accepted, in one list: a refused one is no clock.
+fn run_list(run_list: ListOfClocks) {
+    let mut clocks = 0;
+    for vector in vectors::all() {
+        let name = &vector.name;
+        let Some(trace) = &vector.trace else {
+            // The reader's refusal, whatever is lent.
+            let answer = run_list(&vector.file, &mut [0; 2], &[], &mut [], usize::MAX);
+            assert_eq!(answer, vector.check_answer(), "{name}");
+            continue;
+        };
+        let accepted = trace.runs.iter().filter(|run| run.outputs.is_ok());
+        let inputs: Vec<u8> = accepted.clone().flat_map(|r| r.inputs.clone()).collect();
+        let outputs: Vec<u8> = accepted
+            .clone()
+            .flat_map(|r| r.outputs.clone())
+            .flatten()
+            .collect();
+        let rows = accepted.count();
+        let mut state = trace.reset.clone();
+        let mut words = vec![0xa5; outputs.len()];
+        let answer = run_list(&vector.file, &mut state, &inputs, &mut words, rows);
+        assert_eq!(answer, Ok(outputs.len()), "{name}");
+        assert_eq!(words, outputs, "{name}");
+        let last = trace.runs.last().map_or(&trace.reset, |run| &run.state);
+        assert_eq!(state, *last, "{name}");
+        clocks += rows;
+    }
+    println!("{clocks} clocks in lists");
     assert!(clocks > 0);
 }
 

@@ -18,6 +18,7 @@ pub mod Respelled
 pub mod WordBytes
 pub mod Lending
 pub mod Entries
+pub mod EntriesLaws
 pub mod Refused
 pub mod ServiceLaws
 pub mod Only15
@@ -25,3 +26,7 @@ pub mod NoClock
 pub mod RunsBehave
 pub mod FilesAlike
 pub mod FilesRun
+pub mod RunList
+pub mod RunListLaws
+pub mod NoneRefused
+pub mod FilesRunList

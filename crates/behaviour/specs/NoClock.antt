@@ -9,12 +9,8 @@ use Rattle.behaviour.specs.Runs.{inputWidths, outputWidths}
 use Rattle.behaviour.specs.Service.{fittingBytes, roomFor, Ran, runNet, runFile, Entry}
 use Rattle.behaviour.specs.Lending.{takesEntry}
 use Rattle.behaviour.specs.Entries.{stateAfter, entryFitsOf, entryFits}
+use Rattle.behaviour.specs.EntriesLaws.{after-append}
 use Rattle.behaviour.specs.ServiceLaws.{run-file}
-
-last-run : (s : List ℕ) (es : List Entry) (st : List ℕ) (e : Entry) → stateAfter s st (es ++ e ∷ []) ≡ runFile s (stateAfter s st es) (e .inputs) (e .outputs) .state
-unfolding stateAfter
-last-run s [] st e = refl
-last-run s (d ∷ es) st e = last-run s es (runFile s st (d .inputs) (d .outputs) .state) e
 
 module _ (s : List ℕ) (N : Net) (file : ReadAs s N) where
   stays : (st : List ℕ) (e : Entry) → entryFits s e ≡ false → runFile s st (e .inputs) (e .outputs) .state ≡ st
@@ -24,4 +20,5 @@ module _ (s : List ℕ) (N : Net) (file : ReadAs s N) where
       ap (λ (r : Ran). r .state) (run-file s N file st (e .inputs) (e .outputs)) ∙ rw t refl
 
   pub no-clock : (st : List ℕ) (es : List Entry) (e : Entry) → entryFits s e ≡ false → stateAfter s st (es ++ e ∷ []) ≡ stateAfter s st es
-  no-clock st es e f = last-run s es st e ∙ stays (stateAfter s st es) e f
+  unfolding stateAfter
+  no-clock st es e f = after-append s st es (e ∷ []) ∙ stays (stateAfter s st es) e f

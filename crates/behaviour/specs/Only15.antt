@@ -62,11 +62,11 @@ module _ (N : Net) (wf : WellFormed N) where
     is = ap (λ (r : Ran). r .state) (ran st f e);
   }
 
-  outputs-long : (state ins : List ℕ) → length (runOutputs N state ins) ≡ length (outputWidths N)
+  pub outputs-long : (state ins : List ℕ) → length (runOutputs N state ins) ≡ length (outputWidths N)
   unfolding runOutputs outputsOf outputWidths
   outputs-long state ins = length-select (λ v. isOutput (elementAt N v)) _ (size N) ∙ sym (length-select (λ v. isOutput (elementAt N v)) _ (size N))
 
-  room-taken : (e : Entry) → takesEntry N e ≡ true → length (e .outputs) ≡ 2 * length (outputWidths N)
+  pub room-taken : (e : Entry) → takesEntry N e ≡ true → length (e .outputs) ≡ 2 * length (outputWidths N)
   unfolding takesEntry
   room-taken e t = eqb-true (and-right (fittingBytes (inputWidths N) (e .inputs)) (roomFor (outputWidths N) (e .outputs)) t)
 

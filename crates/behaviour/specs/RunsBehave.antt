@@ -51,7 +51,7 @@ shownFrom N B t (e ∷ es) = shownAt N (B t) e ∷ shownFrom N B (t + one (takes
 
 -- ---- the words of the clocks fit
 
-entry-fits : (N : Net) (e : Entry) → takesEntry N e ≡ true → PortsFit N (wordsIn (e .inputs))
+pub entry-fits : (N : Net) (e : Entry) → takesEntry N e ≡ true → PortsFit N (wordsIn (e .inputs))
 unfolding takesEntry
 entry-fits N e t =
     let b = fittingBytes (inputWidths N) (e .inputs) in

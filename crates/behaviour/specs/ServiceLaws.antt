@@ -15,7 +15,7 @@ use Rattle.netlist.specs.declared.Verdict.the-variants.{Fine, Refuses}
 use Rattle.behaviour.specs.Run.{runOutputs, runState}
 use Rattle.behaviour.specs.Runs as runs
 use Rattle.behaviour.specs.Runs.{stateWidths, fitting, takes, refusal, outcome, after}
-use Rattle.behaviour.specs.Service.{bytesOf, wordsIn, resetBy, resetVerdict, resetNet, resetFile, Ran, runBy, runVerdict, runNet, runFile, Entry, Shown, runsFile}
+use Rattle.behaviour.specs.Service.{bytesOf, wordsIn, fittingBytes, resetBy, resetVerdict, resetNet, resetFile, Ran, runBy, runVerdict, runNet, runFile, Entry, Shown, runsFile}
 use Rattle.behaviour.specs.WordBytes.{words-of-bytes, fitting-bytes}
 use Rattle.behaviour.specs.Lending.{takesEntry, lent, takes-lent, words-lent}
 
@@ -33,6 +33,12 @@ module _ (s : List ℕ) (N : Net) (file : ReadAs s N) where
   run-file st ins outs =
       ap (λ (d : Decoded). runBy (onward (judged d) (runVerdict (decodedNet d) st ins outs)) (decodedNet d) st ins outs) (file .reads)
       ∙ ap (λ (v : Verdict). runBy (onward v (runVerdict N st ins outs)) N st ins outs) (file .fine)
+
+  -- where entry and state fit, neither 15 nor 16 comes up
+  pub run-fine : (st : List ℕ) (e : Entry) → takesEntry N e ≡ true → fittingBytes (stateWidths N) st ≡ true
+      → runFile s st (e .inputs) (e .outputs) ≡ runBy Fine N st (e .inputs) (e .outputs)
+  unfolding runNet takesEntry
+  run-fine st e t f = run-file st (e .inputs) (e .outputs) ∙ rw (t, f)
 
 -- ---- one run
 

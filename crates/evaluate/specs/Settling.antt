@@ -27,7 +27,7 @@ use Rattle.evaluate.specs.declared.Row.{Row}
 use Rattle.evaluate.specs.declared.Row.the-variants.{Inputs, State}
 
 -- an element that is not loaded depends on what it reads within the clock
-now-same : (M : List ℕ) (w : ℕ) (ws : ℕ → ℕ) (own i h : ℕ) (d d′ : ℕ → ℕ) (e : Element) → loaded e ≡ false → ((p : ℕ) → p < withinClock e → d p ≡ d′ p)
+pub now-same : (M : List ℕ) (w : ℕ) (ws : ℕ → ℕ) (own i h : ℕ) (d d′ : ℕ → ℕ) (e : Element) → loaded e ≡ false → ((p : ℕ) → p < withinClock e → d p ≡ d′ p)
     → gives-now M e w ws own own d ≡ gives-now M e w ws i h d′
 now-same M w ws own i h d d′ Input l k = absurd (true≢false l)
 now-same M w ws own i h d d′ Output l k = k 0 (lit< tt)
@@ -37,7 +37,7 @@ now-same M w ws own i h d d′ (Clocked m r) l k = absurd (true≢false l)
 now-same M w ws own i h d d′ (Gate o) l k = operate-cong w ws ws d d′ o (λ p q. refl) k
 
 -- a loaded one gives its own word
-own-word : (M : List ℕ) (w : ℕ) (ws : ℕ → ℕ) (own i h : ℕ) (d : ℕ → ℕ) (e : Element) → loaded e ≡ true → (isInput e ≡ true → i ≡ own) → (holdsWord e ≡ true → h ≡ own)
+pub own-word : (M : List ℕ) (w : ℕ) (ws : ℕ → ℕ) (own i h : ℕ) (d : ℕ → ℕ) (e : Element) → loaded e ≡ true → (isInput e ≡ true → i ≡ own) → (holdsWord e ≡ true → h ≡ own)
     → gives-now M e w ws i h d ≡ own
 own-word M w ws own i h d Input l a b = a refl
 own-word M w ws own i h d Output l a b = absurd (false≢true l)

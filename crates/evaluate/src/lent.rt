@@ -1,21 +1,24 @@
 // The rows of words that a host lends, over the circuit.
 use super::Row;
 use super::code_in_row;
+use areas::number_at;
 use circuit::code_of;
 use circuit::node_count;
 use circuit::wide;
 use circuit::width_of;
 use words::fits_width;
+use words::put_word;
 use words::word_at;
 ghost use mathlib.Core.Path.{_≡_};
 ghost use mathlib.Core.Bool.{true};
-ghost use Prim.Native.Nat.{_<_, _≤_};
-ghost use lib.ListN.{length, take};
+ghost use mathlib.Core.List.{map};
+ghost use Prim.Native.Nat.{_*_, _<_, _≤_};
+ghost use lib.ListN.{length, take, getD};
 ghost use Rattle.lists.specs.Lists.{one};
 ghost use Rattle.netlist.specs.Net.{Net, size};
 ghost use Rattle.netlist.specs.Checks.{WellFormed};
 ghost use Rattle.circuit.specs.Opened.{opened};
-ghost use Rattle.behaviour.specs.Service.{fittingBytes};
+ghost use Rattle.behaviour.specs.Service.{bytesOf, fittingBytes};
 ghost use Rattle.evaluate.specs.Rows.{rowTest, rowMembers, rowWidths, Loaded};
 
 // Whether node v has a word in a row.
@@ -81,4 +84,16 @@ pub fn load_row(
         }
     }
     true
+}
+
+// Writes the words at some places.
+pub fn store_words(members: &[u16], words: &[u16], out: &mut [u8])
+    requires { ⌜ length (now out) ≡ 2 * length (now members) ⌝ }
+    ensures { λ _. ⌜ now (out .exit) ≡ bytesOf (map (λ v. getD (now (words .entry)) v 0) (now (members .entry))) ⌝ }
+{
+    let mut i: usize = 0;
+    while i < members.len() {
+        put_word(out, 2 * i, number_at(words, wide(members[i])));
+        i = i + 1;
+    }
 }

@@ -184,6 +184,11 @@ module _ (K : Class) (N : Net) where
         left : k < size N → (v : ℕ) × (v < size N) × (on flags v ≡ false) → (u : ℕ) × Through K N u u
         left l (v, h, e) = left-loop v h e
 
+  -- where there is no loop all are placed
+  pub all-placed : {order : List ℕ} {k : ℕ} → Outcome K N order k → ((u : ℕ) → Through K N u u → ⊥) → Complete K N order
+  all-placed {order} {k} o none =
+      o .full (⊎-elim (λ l. absurd (let r = o .left l in none (r .0) (r .1))) (λ e. e) (lt-suc-split (let b : k < suc (size N) = omega (arith, o .few) in b)))
+
   -- ---- the outcome is one of the first places
 
   module _ (order other : List ℕ) (same : (i : ℕ) → i < size N → getD other i 0 ≡ getD order i 0) where

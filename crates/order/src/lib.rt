@@ -1,5 +1,6 @@
 // Puts the nodes of a circuit into an order in which each comes after what it reads within the clock.
 // A node is placed where all that it reads is placed; else it waits for a source that is missing.
+pub mod hinted;
 
 use areas::number_at;
 use areas::read_at;

@@ -11,6 +11,11 @@ abbrev pub asNumber : Answer → ℕ
 asNumber (Accepted n) = n
 asNumber (Refused k p) = k * 65536 + p
 
+-- of a call whose length the caller knows: 0 where accepted
+abbrev pub asCode : Answer → ℕ
+asCode (Accepted n) = 0
+asCode (Refused k p) = asNumber (Refused k p)
+
 -- a preview's answer: what rewriting into an output that is long enough answers, or 14
 abbrev pub answerOf : Preview → Answer
 answerOf (preview.Fits z) = Accepted (z .length)

@@ -7,14 +7,16 @@ use rewriter::rewrite_file;
 use rewriter::rewrite_late;
 use run::reset_state;
 use run::run_clock;
+use run_list::run_list;
 ghost use mathlib.Core.Path.{_≡_};
 ghost use Prim.Native.Nat.{_≤_};
 ghost use Rattle.netlist.specs.File.{checkAnswer};
 ghost use Rattle.behaviour.specs.Service.{resetFile, runFile};
+ghost use Rattle.behaviour.specs.RunList.{runListFile};
 ghost use Rattle.retiming.specs.FileRewrite.{rewriteFile};
 ghost use Rattle.retiming.specs.LateFile.{lateRewrite};
 ghost use Rattle.retiming.specs.Preview.{previewFile};
-ghost use Rattle.punqelis.specs.Code.{answerOf, asNumber, asNumbers};
+ghost use Rattle.punqelis.specs.Code.{answerOf, asNumber, asCode, asNumbers};
 ghost use Rattle.punqelis.specs.CodeLaws.{LengthWithin};
 
 // The header's struct punqelis_size.
@@ -47,6 +49,16 @@ fn code(a: Answer) -> u32
     match a {
         Answer::Accepted(n) => n as u32,
         Answer::Refused(number, place) => wide8(number) * 65536 + wide16(place),
+    }
+}
+
+// The number of a refusal, and 0 where there is none: the length of a list of runs can be past every number.
+fn refusal_code(a: Answer) -> u32
+    ensures { λ r. ⌜ r ≡ asCode a ⌝ }
+{
+    match a {
+        Answer::Accepted(_) => 0,
+        Answer::Refused(number, place) => code(Answer::Refused(number, place)),
     }
 }
 
@@ -103,6 +115,22 @@ pub extern "C" fn punqelis_run(
         × (now (outputs .exit) ≡ runFile (now (file .entry)) (now (state .entry)) (now (inputs .entry)) (now (outputs .entry)) .outputs) ⌝ }
 {
     code(run_clock(file, state, inputs, outputs))
+}
+
+// Runs a list of clocks, each with its row of the inputs and its row of the outputs: 0, or the refusal, which leaves state and outputs as they were.
+#[no_mangle]
+pub extern "C" fn punqelis_run_list(
+    file: &[u8],
+    state: &mut [u8],
+    inputs: &[u8],
+    outputs: &mut [u8],
+    clocks: usize,
+) -> u32
+    ensures { λ r. ⌜ (r ≡ asCode (runListFile (now (file .entry)) (now (state .entry)) (now (inputs .entry)) (now (outputs .entry)) clocks .answer))
+        × (now (state .exit) ≡ runListFile (now (file .entry)) (now (state .entry)) (now (inputs .entry)) (now (outputs .entry)) clocks .state)
+        × (now (outputs .exit) ≡ runListFile (now (file .entry)) (now (state .entry)) (now (inputs .entry)) (now (outputs .entry)) clocks .outputs) ⌝ }
+{
+    refusal_code(run_list(file, state, inputs, outputs, clocks))
 }
 
 // Rewrites a file so that all its ROMs are clocked: the new file's length, or the refusal, which leaves the output as it was.

@@ -75,6 +75,7 @@ pub mod Respelled
 pub mod AnswerAlike
 pub mod LateDebtLaws
 pub mod LateStart
+pub mod RunListDemand
 pub mod LateRefusals
 pub mod KeptInFile
 pub mod SameNodes
@@ -83,3 +84,4 @@ pub mod Computing
 pub mod Bench
 pub mod LateBench
 pub mod LengthsBench
+pub mod RunListBench

@@ -1,4 +1,3 @@
-pub mod Filling
 pub mod Joined
 pub mod Outcomes
 pub mod Opened

@@ -1,5 +1,4 @@
 // The reset service and the run of one clock, on the bytes that a host lends. Nothing is written before every check is passed.
-use areas::number_at;
 use checks::open_file;
 use circuit::WORDS;
 use circuit::number_of;
@@ -8,15 +7,15 @@ use evaluate::Row;
 use evaluate::evaluate;
 use evaluate::lent::load_row;
 use evaluate::lent::row_members;
+use evaluate::lent::store_words;
 use evaluate::next_word;
 use netlist::Answer;
 use netlist::Verdict;
 use words::put_word;
 ghost use mathlib.Core.Path.{_≡_};
 ghost use mathlib.Core.Bool.{true};
-ghost use mathlib.Core.List.{map};
 ghost use Prim.Native.Nat.{_*_, _<_};
-ghost use lib.ListN.{length, getD};
+ghost use lib.ListN.{length};
 ghost use Rattle.netlist.specs.Net.{Net, size, elementAt, inClock};
 ghost use Rattle.netlist.specs.Checks.{WellFormed};
 ghost use Rattle.circuit.specs.Circuit.{orderOf, netOf, Circuit};
@@ -82,18 +81,6 @@ fn store_state(file: &[u8], net: &[u16], members: &[u16], words: &[u16], state: 
         let v = wide(members[k]);
         put_word(state, 2 * k, next_word(file, net, v, words));
         k = k + 1;
-    }
-}
-
-// Writes the words of some nodes.
-fn store_words(members: &[u16], words: &[u16], out: &mut [u8])
-    requires { ⌜ length (now out) ≡ 2 * length (now members) ⌝ }
-    ensures { λ _. ⌜ now (out .exit) ≡ bytesOf (map (λ v. getD (now (words .entry)) v 0) (now (members .entry))) ⌝ }
-{
-    let mut i: usize = 0;
-    while i < members.len() {
-        put_word(out, 2 * i, number_at(words, wide(members[i])));
-        i = i + 1;
     }
 }
 

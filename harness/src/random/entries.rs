@@ -3,7 +3,7 @@
 use super::Random;
 use crate::netlist::{Kind, Netlist};
 
-/// What one run is lent besides file and state.
+/// What a run, or a list of them, is lent besides file and state.
 pub struct Entry {
     pub inputs: Vec<u8>,
     pub outputs_len: usize,

@@ -4,6 +4,7 @@
 mod changed_tables;
 mod damage;
 mod entries;
+mod lists;
 mod netlists;
 mod refused;
 mod tables;
@@ -11,7 +12,10 @@ mod tables;
 pub use changed_tables::changed_table;
 pub use damage::{damaged, rewired};
 pub use entries::{inputs, other_length, other_number, widen, Entry};
-pub use netlists::{filled_netlist, grown_from, late_netlist, netlist, sized_netlist, Shape};
+pub use lists::List;
+pub use netlists::{
+    filled_netlist, grown_from, late_netlist, netlist, sized_netlist, without_ports, Shape,
+};
 pub use refused::{closed_debt, grown, grown_late, port_debt};
 
 /// A small generator of random numbers (SplitMix64): the same seed gives the same numbers.

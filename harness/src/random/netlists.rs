@@ -105,6 +105,23 @@ pub fn late_netlist(random: &mut Random) -> Design {
     grown_from(random, &shape, MAX_NODES)
 }
 
+/// A random netlist with no ports: rings read what nothing reads, and in the place of an input port
+/// there is a gate whose words go on changing, in a ring with a register.
+pub fn without_ports(random: &mut Random) -> Design {
+    let mut shape = Shape::random(random);
+    shape.rings = 100;
+    let mut design = grown_from(random, &shape, MAX_NODES / 2);
+    for number in 0..design.nodes.len() as u16 {
+        if design.kind(number) == Kind::Input {
+            let reset = random.word(design.width(number));
+            let register = design.register(number, reset);
+            design.nodes[usize::from(number)].kind = Kind::Not;
+            design.connect(number, 0, register);
+        }
+    }
+    design
+}
+
 /// A random netlist with a fill word in one table at least.
 pub fn filled_netlist(random: &mut Random) -> Design {
     loop {

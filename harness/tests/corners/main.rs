@@ -6,6 +6,7 @@ mod fill_words;
 mod filled_tables;
 mod late_files;
 mod late_start;
+mod lists_of_runs;
 mod previews;
 mod rewriting;
 mod unread_tables;

@@ -148,6 +148,8 @@ fn every_service_says_it_with_1_to_10() {
         // Neither the state nor the words would fit.
         assert_eq!((services.reset)(&file, state), answer);
         assert_eq!((services.run)(&file, state, &inputs[..1], outputs), answer);
+        let list = (services.run_list)(&file, state, &inputs[..1], outputs, usize::MAX);
+        assert_eq!(list, answer);
         assert_eq!((services.rewrite)(&file, state), answer);
         assert_eq!((services.rewrite_late)(&file, state), answer);
         assert_eq!(lent, [0xa5; 6]);

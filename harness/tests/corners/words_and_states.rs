@@ -4,7 +4,7 @@ use harness::design::Design;
 use harness::{Answer, OnBytes, OneClock, Refusal};
 
 /// One input of 3 bits, a register and a clocked ROM behind it, two outputs.
-fn netlist() -> Vec<u8> {
+pub fn netlist() -> Vec<u8> {
     let mut design = Design::default();
     design.table(2, &[0, 1, 2, 3, 3, 2, 1, 0]);
     let input = design.input(3);

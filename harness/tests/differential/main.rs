@@ -4,6 +4,8 @@
 
 mod checks;
 mod files;
+#[cfg(feature = "run")]
+mod lists;
 #[cfg(feature = "rewrite")]
 mod previews;
 #[cfg(feature = "rewrite")]

@@ -4,7 +4,7 @@ use harness::checks::checked;
 use harness::lent::Lent;
 use harness::random::{self, other_length, other_number, widen, Entry, Random};
 use harness::simulate::{reset_checked, run_checked, state_len};
-use harness::{product, workloads};
+use harness::{product, workloads, Answer, OneClock};
 
 use super::files::any_file;
 use super::tally::Tally;
@@ -32,18 +32,18 @@ fn reset() {
 /// Runs with entries and states of any sort.
 #[test]
 fn run() {
+    const RUN: [OneClock; 2] = [harness::run, product::run];
     let mut random = Random::new(21);
     let mut tally = Tally::default();
     for _ in 0..5_000 {
         let file = any_file(&mut random);
         let Ok(checked) = checked(&file) else {
             // Refused before anything lent is looked at.
-            let mut own = Lent::random(&mut random, 4);
-            let mut other = own.clone();
-            let answer = harness::run(&file, own.slice(), &[0; 2], &mut []);
-            let same = product::run(&file, other.slice(), &[0; 2], &mut []);
-            tally.answer(&file, &[], answer, same);
-            tally.bytes("state", &file, own.whole(), other.whole());
+            let entry = Entry {
+                inputs: vec![0; 2],
+                outputs_len: 0,
+            };
+            compare(&mut tally, &mut random, &file, &mut [1; 4], &entry, RUN);
             continue;
         };
         tally.files += 1;
@@ -51,27 +51,40 @@ fn run() {
         reset_checked(&checked, &mut state).expect("the length is right");
         for _ in 0..12 {
             let entry = Entry::any(&mut random, &checked.netlist);
-            let mut lent = state.clone();
-            match random.below(12) {
-                0 => lent = other_length(&mut random, lent),
-                1 => widen(&mut random, &mut lent),
-                _ => {}
-            }
-            let mut own = Lent::new(&mut random, &lent);
-            let mut other = own.clone();
-            let mut own_out = Lent::random(&mut random, entry.outputs_len);
-            let mut other_out = own_out.clone();
-            let answer = harness::run(&file, own.slice(), &entry.inputs, own_out.slice());
-            let same = product::run(&file, other.slice(), &entry.inputs, other_out.slice());
-            tally.answer(&file, &[&lent, &entry.inputs], answer, same);
-            tally.bytes("state", &file, own.whole(), other.whole());
-            tally.bytes("outputs", &file, own_out.whole(), other_out.whole());
-            if answer.is_ok() {
-                state.copy_from_slice(own.slice());
-            }
+            compare(&mut tally, &mut random, &file, &mut state, &entry, RUN);
         }
     }
     tally.print("run");
+}
+
+/// A call of the harness and of the product over the state, or over one that is made wrong. An
+/// accepted call takes the state on.
+pub fn compare(
+    tally: &mut Tally,
+    random: &mut Random,
+    file: &[u8],
+    state: &mut [u8],
+    entry: &Entry,
+    [own_call, call]: [impl Fn(&[u8], &mut [u8], &[u8], &mut [u8]) -> Answer; 2],
+) {
+    let mut lent = state.to_vec();
+    match random.below(12) {
+        0 => lent = other_length(random, lent),
+        1 => widen(random, &mut lent),
+        _ => {}
+    }
+    let mut own = Lent::new(random, &lent);
+    let mut other = own.clone();
+    let mut own_out = Lent::random(random, entry.outputs_len);
+    let mut other_out = own_out.clone();
+    let answer = own_call(file, own.slice(), &entry.inputs, own_out.slice());
+    let same = call(file, other.slice(), &entry.inputs, other_out.slice());
+    tally.answer(file, &[&lent, &entry.inputs], answer, same);
+    tally.bytes("state", file, own.whole(), other.whole());
+    tally.bytes("outputs", file, own_out.whole(), other_out.whole());
+    if answer.is_ok() {
+        state.copy_from_slice(own.slice());
+    }
 }
 
 /// Many clocks in a row, over one state each.

@@ -35,7 +35,7 @@ impl Tally {
     }
 
     /// Each answer came up, but none of these refusals, which the service never says.
-    #[cfg(feature = "rewrite")]
+    #[cfg(feature = "run")]
     pub fn all_came_up_but(&self, never: &[u16]) {
         for (number, &answers) in self.refusals.iter().enumerate() {
             let said = !never.contains(&(number as u16));

@@ -1,5 +1,5 @@
 -- By the code.
-use Rattle.evaluate.proofs.ByCode.{loaded-code, other-code}
+use Rattle.evaluate.specs.Coded.{loaded-code, other-code}
 use Rattle.evaluate.proofs.keeps_word.Statement.{statement}
 use Rattle.evaluate.proofs.keeps_word.Tie as tie
 

@@ -1,6 +1,6 @@
 -- Its table is there, and has a word at each address of so many bits.
 use borrow.Author.Needs.{needs}
-use Rattle.evaluate.proofs.ByCode.{memory-asks, memory-gives}
+use Rattle.evaluate.specs.Coded.{memory-asks, memory-gives}
 use Rattle.evaluate.proofs.memory_word.Statement.{statement}
 use Rattle.evaluate.proofs.memory_word.Tie as tie
 

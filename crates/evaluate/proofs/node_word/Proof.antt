@@ -4,7 +4,8 @@ use native.Mathlib.Omega.{arith}
 use lib.Dec.{lit<}
 use Rattle.netlist.specs.Net.{elementAt}
 use Rattle.circuit.specs.Circuit.{netOf}
-use Rattle.evaluate.proofs.ByCode.{gate-code, constant-told, part-told, plain-told, Gathered, node-output, async-asks, node-async, node-gate, gate-asks, part-low}
+use Rattle.evaluate.specs.Coded.{gate-code, constant-told, part-told, plain-told, part-low}
+use Rattle.evaluate.proofs.ByCode.{Gathered, node-output, async-asks, node-async, node-gate, gate-asks}
 use borrow.Author.Needs.{needs}
 use Rattle.evaluate.proofs.node_word.Statement.{statement}
 use Rattle.evaluate.proofs.node_word.Tie as tie

@@ -11,7 +11,7 @@ use Rattle.behaviour.specs.Service.{bytesOf, wordsIn}
 use Rattle.evaluate.specs.Rows.{rowTest}
 use Rattle.evaluate.specs.Next.{nextWord, next-state}
 use Rattle.evaluate.specs.declared.Row.the-variants.{State}
-use Rattle.run.proofs.Filling.{Filling, fill-none, fill-put, fill-room, fill-kept, fill-all}
+use Rattle.evaluate.specs.Filling.{Filling, fill-none, fill-put, fill-room, fill-kept, fill-all}
 use borrow.Author.Needs.{needs}
 use Rattle.run.proofs.store_state.Statement.{statement}
 use Rattle.run.proofs.store_state.Tie as tie

@@ -1,9 +1,12 @@
 //! The product's speed as a ratio to the harness's, and its preview's to its own rewriting's, all
 //! measured in this one run, and the product's stack.
 //!
-//! Each service of either side reads and checks the whole file anew at every call.
+//! Each service of either side reads and checks the whole file anew at every call. A list of runs
+//! is held against steps that check nothing, and against the product's own runs.
 
 mod compare;
+#[cfg(feature = "run")]
+mod lists;
 mod stack;
 #[cfg(feature = "rewrite")]
 mod stages;
@@ -37,6 +40,8 @@ fn main() {
     );
     #[cfg(feature = "run")]
     growth();
+    #[cfg(feature = "run")]
+    lists::lists();
     #[cfg(feature = "rewrite")]
     stages::stages(&workloads::typical());
     #[cfg(feature = "rewrite")]

@@ -11,6 +11,7 @@ use harness::{workloads, Answer};
 use harness::{
     checks::checked,
     simulate::{inputs_len, outputs_len, state_len},
+    ListOfClocks,
 };
 
 #[cfg(feature = "rewrite")]
@@ -51,6 +52,13 @@ impl Lent {
             #[cfg(feature = "rewrite")]
             by_source: vec![0; MAX_LIST],
         }
+    }
+
+    /// A list of two clocks.
+    #[cfg(feature = "run")]
+    fn run_twice(&mut self, run_list: ListOfClocks) -> Answer {
+        let [inputs, mut outputs] = [&self.inputs, &self.outputs].map(|row| row.repeat(2));
+        run_list(&self.file, &mut self.state, &inputs, &mut outputs, 2)
     }
 }
 
@@ -100,6 +108,12 @@ pub fn stack(refused: impl Iterator<Item = Vec<u8>>) {
         "run",
         |l| product::run(&l.file, &mut l.state, &l.inputs, &mut l.outputs),
         |l| harness::run(&l.file, &mut l.state, &l.inputs, &mut l.outputs),
+    );
+    #[cfg(feature = "run")]
+    print(
+        "list of runs",
+        |l| l.run_twice(product::run_list),
+        |l| l.run_twice(harness::run_list),
     );
     #[cfg(feature = "rewrite")]
     print(

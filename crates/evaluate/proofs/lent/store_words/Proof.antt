@@ -5,9 +5,9 @@ use Prim.Native.Nat.{ℕ, _+_, _-_}
 use native.Mathlib.Omega.{arith}
 use lib.ListN.{length, getD}
 use borrow.Author.Needs.{needs}
-use Rattle.run.proofs.Filling.{Filling, fill-none, fill-put, fill-room, fill-kept, fill-all}
-use Rattle.run.proofs.store_words.Statement.{statement}
-use Rattle.run.proofs.store_words.Tie as tie
+use Rattle.evaluate.specs.Filling.{Filling, fill-none, fill-put, fill-room, fill-kept, fill-all}
+use Rattle.evaluate.proofs.lent.store_words.Statement.{statement}
+use Rattle.evaluate.proofs.lent.store_words.Tie as tie
 
 abbrev Inv-loop : tie.InvT-loop
 Inv-loop members words out₀ i₀ out i = Filling (λ u. getD words u 0) members out₀ out i

@@ -1,0 +1,4 @@
+pub mod Rows
+pub mod Verdict
+pub mod Clocks
+pub mod ListNet

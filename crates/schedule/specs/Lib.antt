@@ -1,0 +1,10 @@
+pub mod Lines
+pub mod Codes
+pub mod Filled
+pub mod Listed
+pub mod Listing
+pub mod ListedLaws
+pub mod Places
+pub mod Laid
+pub mod Ports
+pub mod Scheduling

@@ -1,0 +1,5 @@
+pub mod Step
+pub mod StepLaws
+pub mod NextLaws
+pub mod Putting
+pub mod Clock

@@ -1,0 +1,114 @@
+// One clock: a row of inputs is put at its places, the lines are done, a row of outputs is written, and the next state comes to the state's places.
+use super::step_lines;
+use circuit::table_word;
+use circuit::wide;
+use evaluate::lent::store_words;
+use schedule::CODE;
+use schedule::HELD;
+use schedule::OUTPUTS;
+use schedule::PLACES;
+use schedule::Sizes;
+use schedule::part_of;
+use words::word_at;
+ghost use mathlib.Core.Path.{_≡_};
+ghost use mathlib.Core.Bool.{true};
+ghost use Prim.Native.Nat.{_+_, _*_, _/_, _<_, _≤_};
+ghost use lib.ListN.{length, getD};
+ghost use Rattle.words.specs.Words.{word};
+ghost use Rattle.netlist.specs.Net.{Net};
+ghost use Rattle.netlist.specs.Checks.{WellFormed};
+ghost use Rattle.circuit.specs.Opened.{opened};
+ghost use Rattle.behaviour.specs.Run.{runOutputs, runState};
+ghost use Rattle.behaviour.specs.Runs.{inputWidths, stateWidths, fitting};
+ghost use Rattle.behaviour.specs.Service.{bytesOf, wordsIn};
+ghost use Rattle.schedule.specs.Lines.{Scheduled};
+ghost use Rattle.stepping.specs.Step.{lineNext, FitTo, OnHolder};
+ghost use Rattle.stepping.specs.Putting.{Put};
+ghost use Rattle.stepping.specs.Clock.{stateIn};
+
+// The words of a row: a place for each line, then the next state until the clock is over.
+pub const WORDS: usize = 3072;
+
+const NEXT: usize = 2048;
+
+// Puts the words of a lent row at the places from one on.
+pub fn put_row(bytes: &[u8], from: usize, words: &mut [u16])
+    requires { ⌜ from + length (now bytes) / 2 ≤ length (now words) ⌝ }
+    ensures { λ _. ⌜ Put from (length (now (bytes .entry)) / 2) (λ j. word (now (bytes .entry)) (2 * j)) (now (words .entry)) (now (words .exit)) ⌝ }
+{
+    let n = bytes.len() / 2;
+    let mut j: usize = 0;
+    while j < n {
+        words[from + j] = word_at(bytes, 2 * j);
+        j = j + 1;
+    }
+}
+
+// What a register or a clocked ROM on line i holds after the clock.
+fn next_word(file: &[u8], net: &[u16], schedule: &[u16], i: usize, words: &[u16]) -> u16
+    ghost { Net }
+    requires { λ N. opened 𝓤 (now file) (now net) N (WellFormed N × OnHolder N (now schedule) (now words) i) }
+    ensures { λ N r. ⌜ r ≡ lineNext N (now (schedule .entry)) (now (words .entry)) i ⌝ }
+{
+    let word = words[part_of(schedule, i, PLACES)];
+    if part_of(schedule, i, CODE) == 2 {
+        word
+    } else {
+        table_word(file, net, part_of(schedule, i, HELD), wide(word))
+    }
+}
+
+// Puts the next state behind the places, so that no register sees another's new word.
+fn put_next(file: &[u8], net: &[u16], schedule: &[u16], sizes: Sizes, words: &mut [u16])
+    ghost { Net }
+    requires { λ N. opened 𝓤 (now file) (now net) N (WellFormed N × Scheduled N (now schedule) sizes × (3072 ≤ length (now words))
+        × FitTo N (now schedule) (now words) (sizes .lines)) }
+    ensures { λ N _. ⌜ Put 2048 (sizes .held) (λ j. lineNext N (now (schedule .entry)) (now (words .entry)) (sizes .inputs + j)) (now (words .entry)) (now (words .exit)) ⌝ }
+{
+    let from = sizes.inputs;
+    let held = sizes.held;
+    let mut j: usize = 0;
+    while j < held {
+        words[NEXT + j] = next_word(file, net, schedule, from + j, words);
+        j = j + 1;
+    }
+}
+
+// Brings the next state to the state's places.
+fn keep_next(sizes: Sizes, words: &mut [u16])
+    requires { ⌜ (sizes .inputs + sizes .held ≤ 2048) × (sizes .held ≤ 1024) × (3072 ≤ length (now words)) ⌝ }
+    ensures { λ _. ⌜ Put (sizes .inputs) (sizes .held) (λ j. getD (now (words .entry)) (2048 + j) 0) (now (words .entry)) (now (words .exit)) ⌝ }
+{
+    let from = sizes.inputs;
+    let held = sizes.held;
+    let mut j: usize = 0;
+    while j < held {
+        words[from + j] = words[NEXT + j];
+        j = j + 1;
+    }
+}
+
+// One clock over a schedule.
+pub fn clock(
+    file: &[u8],
+    net: &[u16],
+    schedule: &[u16],
+    sizes: Sizes,
+    inputs: &[u8],
+    words: &mut [u16],
+    outputs: &mut [u8],
+)
+    ghost { Net }
+    requires { λ N. opened 𝓤 (now file) (now net) N (WellFormed N × Scheduled N (now schedule) sizes × (3072 ≤ length (now words))
+        × (length (now inputs) ≡ 2 * sizes .inputs) × (length (now outputs) ≡ 2 * sizes .outputs)
+        × (fitting (inputWidths N) (wordsIn (now inputs)) ≡ true) × (fitting (stateWidths N) (stateIn sizes (now words)) ≡ true)) }
+    ensures { λ N _. ⌜ (now (outputs .exit) ≡ bytesOf (runOutputs N (stateIn sizes (now (words .entry))) (wordsIn (now (inputs .entry)))))
+        × (stateIn sizes (now (words .exit)) ≡ runState N (stateIn sizes (now (words .entry))) (wordsIn (now (inputs .entry)))) ⌝ }
+{
+    put_row(inputs, 0, words);
+    step_lines(file, net, schedule, sizes, words);
+    let end = OUTPUTS + sizes.outputs;
+    store_words(&schedule[OUTPUTS..end], words, outputs);
+    put_next(file, net, schedule, sizes, words);
+    keep_next(sizes, words);
+}
