@@ -1,7 +1,7 @@
 // The rows of words that a host lends, over the circuit.
 use super::Row;
 use super::code_in_row;
-use areas::number_at;
+use areas::read_at;
 use circuit::code_of;
 use circuit::node_count;
 use circuit::wide;
@@ -12,7 +12,7 @@ use words::word_at;
 ghost use mathlib.Core.Path.{_≡_};
 ghost use mathlib.Core.Bool.{true};
 ghost use mathlib.Core.List.{map};
-ghost use Prim.Native.Nat.{_*_, _<_, _≤_};
+ghost use Prim.Native.Nat.{ℕ, _*_, _<_, _≤_};
 ghost use lib.ListN.{length, take, getD};
 ghost use Rattle.lists.specs.Lists.{one};
 ghost use Rattle.netlist.specs.Net.{Net, size};
@@ -88,12 +88,12 @@ pub fn load_row(
 
 // Writes the words at some places.
 pub fn store_words(members: &[u16], words: &[u16], out: &mut [u8])
-    requires { ⌜ length (now out) ≡ 2 * length (now members) ⌝ }
+    requires { ⌜ (length (now out) ≡ 2 * length (now members)) × ((i : ℕ) → i < length (now members) → getD (now members) i 0 < length (now words)) ⌝ }
     ensures { λ _. ⌜ now (out .exit) ≡ bytesOf (map (λ v. getD (now (words .entry)) v 0) (now (members .entry))) ⌝ }
 {
     let mut i: usize = 0;
     while i < members.len() {
-        put_word(out, 2 * i, number_at(words, wide(members[i])));
+        put_word(out, 2 * i, read_at(words, wide(members[i])));
         i = i + 1;
     }
 }

@@ -1,11 +1,13 @@
 -- A part of a work area that stands for a list of its own: so many words from a place on. Assumes nothing.
 use mathlib.Core.Path.{_≡_, refl, sym, ap, ap₂, _∙_}
-use mathlib.Core.List.{List, [], _∷_, _++_}
+use mathlib.Core.List.{List, [], _∷_, _++_, map}
 use Prim.Native.Nat.{ℕ, zero, suc, _+_, _-_, _≤_, _<_}
 use native.Mathlib.Numerals.{add-one}
 use native.Mathlib.Omega.{arith}
 use lib.ListN.{length, getD, set, take, drop, replicate, length-drop, length-set}
-use lib.Seq.{length-take-le, take-all, getD-take, getD-drop, take-set-le, take-set-lt, take-suc-set, drop-set-lt, drop-set-add}
+use lib.Seq.{length-take-le, take-all, getD-take, getD-drop, take-set-le, take-set-lt, take-suc-set, drop-set-lt, drop-set-add, ext-getD}
+use Rattle.lists.specs.Lists.{below}
+use Rattle.lists.specs.BelowLaws.{length-listed, getD-listed}
 
 abbrev pub section : ℕ → ℕ → List ℕ → List ℕ
 section at n l = take n (drop at l)
@@ -59,3 +61,9 @@ module _ (at n : ℕ) (l : List ℕ) where
 
     pub last-put : (i x : ℕ) → section at n (set l (at + i) x) ≡ set (section at n l) i x
     last-put i x = all-of-it (set l (at + i) x) (length-set l (at + i) x) ∙ drop-set-add at l i x ∙ ap (λ (m : List ℕ). set m i x) (sym (all-of-it l refl))
+
+-- a part of a list, word by word
+pub section-listed : (from n : ℕ) (l : List ℕ) → from + n ≤ length l → map (λ k. getD l (from + k) 0) (below n) ≡ section from n l
+section-listed from n l h =
+    ext-getD 0 _ _ (length-listed (λ k. getD l (from + k) 0) n ∙ sym (section-length from n l h))
+    (λ j k. let m : j < n = omega (arith, length-listed (λ i. getD l (from + i) 0) n) in getD-listed (λ i. getD l (from + i) 0) n j 0 m ∙ sym (section-read from n l j m))

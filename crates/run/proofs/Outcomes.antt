@@ -2,9 +2,9 @@
 use mathlib.Core.Path.{_≡_, refl, sym, ap, _∙_}
 use mathlib.Core.Bool.{Bool, true, false, cond, _&&_}
 use mathlib.Core.List.{List}
-use Prim.Native.Nat.{ℕ, _*_, _≤_}
+use Prim.Native.Nat.{ℕ, _*_, _≤_, _<_}
 use native.Mathlib.Omega.{arith}
-use lib.ListN.{length, take}
+use lib.ListN.{length, getD, take}
 use lib.Seq.{length-take-le}
 use borrow.Author.Tests.{eq-eqb, ne-eqb}
 use Rattle.lists.specs.BelowLaws.{and-left, eqb-true}
@@ -15,7 +15,7 @@ use Rattle.netlist.specs.declared.Verdict.the-variants.{Fine, Refuses}
 use Rattle.behaviour.specs.Runs.{inputWidths, outputWidths, stateWidths, fitting}
 use Rattle.behaviour.specs.Service.{wordsIn, roomFor, fittingBytes, Filled, resetBy, resetNet, Ran, runBy, runNet}
 use Rattle.evaluate.specs.Rows.{rowTest, rowMembers, rowWidths}
-use Rattle.lists.specs.SelectLaws.{members-count}
+use Rattle.lists.specs.SelectLaws.{members-count, member}
 use Rattle.evaluate.specs.declared.Row.{Row}
 use Rattle.evaluate.specs.declared.Row.the-variants.{Inputs, Outputs, State}
 
@@ -50,6 +50,10 @@ module _ (N : Net) (row : Row) {k : ℕ} (l : List ℕ) (m : (take k l ≡ rowMe
   row-length t =
       let h : length b ≡ 2 * length (rowWidths row N) = eqb-true (and-left (roomFor (rowWidths row N) b) (fitting (rowWidths row N) (wordsIn b)) t) in
       omega (arith, words)
+
+-- its members are nodes
+pub row-near : (N : Net) (row : Row) {l : List ℕ} → l ≡ rowMembers row N → size N ≤ 1024 → (j : ℕ) → j < length l → getD l j 0 < 1024
+row-near N row e few j h = omega (arith, member (rowTest row N) (size N) e h refl .low)
 
 -- ---- reset
 

@@ -3,14 +3,15 @@ use mathlib.Core.Path.{_≡_, refl, sym, ap, ap₂, _∙_}
 use mathlib.Core.Bool.{true}
 use mathlib.Core.List.{List, _++_, append-nil, append-assoc}
 use Prim.Native.Nat.{ℕ, suc, _+_, _-_, _*_, _/_, _≤_}
-use native.Mathlib.Nat.{zero-add, mul-zero, mul-suc}
+use native.Mathlib.Nat.{mul-zero, mul-suc}
 use native.Mathlib.Numerals.{add-one}
 use native.Mathlib.Omega.{arith}
 use lib.ListN.{length, take, drop, length-append, length-drop}
 use lib.Seq.{take-at, drop-at, drop-drop, drop-length}
-use Rattle.lists.specs.Lists.{upFrom, below, concatMap}
-use Rattle.lists.specs.BelowLaws.{and-left, and-right, eqb-true, upFrom-split, getD-listed}
-use Rattle.lists.specs.ListsLaws.{concatMap-append, length-select}
+use Rattle.lists.specs.Lists.{below, concatMap}
+use Rattle.lists.specs.BelowLaws.{and-left, and-right, eqb-true, getD-listed}
+use Rattle.lists.specs.ListsLaws.{length-select}
+use Rattle.lists.specs.SelectLaws.{concat-more}
 use Rattle.words.specs.Words.{word}
 use Rattle.netlist.specs.Net.{Net, size, widthAt}
 use Rattle.netlist.specs.Checks.{WellFormed}
@@ -37,11 +38,6 @@ pub record Clocked (N : Net) (st ins before : List ℕ) (i : ℕ) (state outs : 
   pub state-is : state ≡ statesFrom N st (rowWords N ins) i
   pub outs-are : outs ≡ concatMap (shownAt N st ins) (below i) ++ drop (rowBytes (outputWidths N) * i) before
   pub done-long : length (concatMap (shownAt N st ins) (below i)) ≡ rowBytes (outputWidths N) * i
-
-concat-more : (f : ℕ → List ℕ) (n : ℕ) → concatMap f (below (n + 1)) ≡ concatMap f (below n) ++ f n
-concat-more f n =
-    ap (concatMap f) (upFrom-split 0 n 1) ∙ concatMap-append f (below n) (upFrom (0 + n) 1)
-    ∙ ap (λ (l : List ℕ). concatMap f (below n) ++ l) (append-nil (f (0 + n)) ∙ ap f (zero-add n))
 
 module _ (N : Net) (st ins before : List ℕ) where
   abbrev r : ℕ

@@ -1,17 +1,14 @@
 -- Rows of bytes: how many there are, and whether each fits. Assumes nothing.
 use mathlib.Core.Path.{_≡_, refl, sym, ap, ap₂, _∙_}
 use mathlib.Core.Bool.{Bool, true, false, true≢false}
-use mathlib.Core.List.{List, map}
+use mathlib.Core.List.{List}
 use Prim.Native.Nat.{ℕ, _+_, _-_, _*_, _/_, _%_, _≤_, _<_}
 use native.Mathlib.Nat.{zero-mul, mul-suc, mul-le-mul-left, mul-mod-right, div-eq-of-eq-mul-right, div-add-mod}
 use native.Mathlib.Omega.{arith}
-use lib.ListN.{length, getD, take, drop}
-use lib.Seq.{ext-getD}
+use lib.ListN.{length, take, drop}
 use lib.Dec.{eqb}
 use borrow.Author.Tests.{eq-eqb, ne-eqb}
-use Rattle.lists.specs.BelowLaws.{and-right, eqb-true, eqb-differ, allBelow-elim, allBelow-intro, length-listed, getD-listed}
-use Rattle.lists.specs.Lists.{below}
-use Rattle.lists.specs.Sections.{section, section-length, section-read}
+use Rattle.lists.specs.BelowLaws.{and-right, eqb-true, eqb-differ, allBelow-elim, allBelow-intro}
 use Rattle.lists.specs.ListsLaws.{length-select}
 use Rattle.lists.specs.SelectLaws.{members-count}
 use Rattle.netlist.specs.Net.{Net, size, widthAt}
@@ -70,9 +67,3 @@ row-part r b i {at} {e} a h = let k : e - at ≡ r = omega arith in ap₂ (λ (x
 pub row-length : (N : Net) (row : Row) {members : List ℕ} → members ≡ rowMembers row N → 2 * length members ≡ rowBytes (rowWidths row N)
 row-length N row e =
     ap (2 *_) (members-count (rowTest row N) (size N) e ∙ sym (length-select (rowTest row N) (λ v. widthAt N v) (size N)))
-
--- a part of a list, word by word
-pub section-listed : (from n : ℕ) (l : List ℕ) → from + n ≤ length l → map (λ k. getD l (from + k) 0) (below n) ≡ section from n l
-section-listed from n l h =
-    ext-getD 0 _ _ (length-listed (λ k. getD l (from + k) 0) n ∙ sym (section-length from n l h))
-    (λ j k. let m : j < n = omega (arith, length-listed (λ i. getD l (from + i) 0) n) in getD-listed (λ i. getD l (from + i) 0) n j 0 m ∙ sym (section-read from n l j m))

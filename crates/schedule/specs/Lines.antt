@@ -123,7 +123,7 @@ pub record Scheduled (N : Net) (l : List ℕ) (z : Sizes) : Type 0 where
   pub all-holders : z .held ≡ countBelow (rowTest State N) (size N)
   pub holder-lines : (j : ℕ) → j < z .held → Line N l (z .inputs + j) × ReadsBelow N l (z .lines) (z .inputs + j)
   pub inner-lines : (i : ℕ) → z .inputs + z .held ≤ i → i < z .lines → InnerLine N l i
-  pub runs : (i : ℕ) → z .inputs + z .held ≤ i → i < z .lines → RunTo l i (runEnd l i) × (runEnd l i ≤ z .lines)
+  pub runs : (i : ℕ) → i < z .lines → RunTo l i (runEnd l i) × (runEnd l i ≤ z .lines)
   pub few-outputs : z .outputs ≤ 1024
   pub all-outputs : z .outputs ≡ countBelow (rowTest Outputs N) (size N)
   pub outputs : (j v : ℕ) → Member (rowTest Outputs N) (size N) j v

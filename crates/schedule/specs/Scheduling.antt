@@ -122,7 +122,7 @@ module _ {N : Net} {order nodes places before l : List ℕ} {z : Sizes}
           let k : z .inputs + j < z .lines = omega (arith, front) in
           (as-line (z .inputs + j) k, reads-below (z .lines) (z .inputs + j) (omega arith) k (λ p q. reads listed wf whole (inside (z .inputs + j) k) q));
       inner-lines = inner-line;
-      runs = λ i low high. all .runs i (omega arith) high;
+      runs = λ i high. all .runs i (omega arith) high;
       few-outputs = omega (arith, few-outputs listed, wf .fields .bounds .nodes);
       all-outputs = listed .all-outputs;
       outputs = output;

@@ -198,3 +198,10 @@ row-ready {N} {z = z} b ws us t a e i h = record {
   ports-fit = ports-fit N (wordsIn b) i;
   holders-fit = holders-fit N (stateIn z ws) h;
 }
+
+-- the output ports read at places
+pub outputs-near : {N : Net} {l : List ℕ} {z : Sizes} → Scheduled N l z → {k : ℕ} → k ≡ z .outputs → (j : ℕ) → j < length (section outputsFrom k l) → getD (section outputsFrom k l) j 0 < 2048
+outputs-near {N} {l} {z} t {k} e j h =
+    let low : j < k = omega (arith, t .room, t .few-outputs, section-length outputsFrom k l (omega (arith, t .room, t .few-outputs))) in
+    let m = some-member (rowTest Outputs N) (size N) j (omega (arith, t .all-outputs)) in
+    omega (arith, section-read outputsFrom k l j low, t .outputs j (m .0) (m .1) .0, t .few)

@@ -55,6 +55,9 @@ module _ {N : Net} {l : List ℕ} {z : Sizes} (t : Scheduled N l z) where
   few-held h = omega (arith, t .all-holders, countBelow-le (rowTest State N) (size N))
 
   module _ (j : ℕ) (h : j < z .held) where
+    pub holder-near : placeOn l (z .inputs + j) 0 < 2048
+    holder-near = t .holder-lines j h .0 .near 0 (lit< tt)
+
     pub holder-line : (ws : List ℕ) → 2048 ≤ length ws → FitTo N l ws (z .lines) → OnHolder N l ws (z .inputs + j)
     holder-line ws space fit =
         let m = t .holders j h in
@@ -75,8 +78,4 @@ module _ {N : Net} {l : List ℕ} {z : Sizes} (t : Scheduled N l z) where
     next-line-same ws us same =
         let i = z .inputs + j in
         next-same (contentsAt N (nodeOn l i)) (λ p. getD ws (placeOn l i p) 0) (λ p. getD us (placeOn l i p) 0) (elementAt N (nodeOn l i))
-        (λ y. same (placeOn l i 0) (t .holder-lines j h .0 .near 0 (lit< tt)))
-
-  -- words that agree at the places fit as well
-  pub fit-same : (ws us : List ℕ) → ((u : ℕ) → u < 2048 → getD ws u 0 ≡ getD us u 0) → FitTo N l us (z .lines) → FitTo N l ws (z .lines)
-  fit-same ws us same fit j h = rw (same j (omega (arith, t .few))) (fit j h)
+        (λ y. same (placeOn l i 0) holder-near)

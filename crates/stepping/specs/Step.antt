@@ -2,13 +2,13 @@
 use mathlib.Core.Path.{_≡_}
 use mathlib.Core.Bool.{true}
 use mathlib.Core.List.{List}
-use Prim.Native.Nat.{ℕ, _^_, _≤_, _<_}
+use Prim.Native.Nat.{ℕ, _-_, _^_, _≤_, _<_}
 use lib.ListN.{length, getD}
 use Rattle.words.specs.declared.Op.{Op}
 use Rattle.gates.specs.Gate.{gateWord}
 use Rattle.netlist.specs.Net.{Net, elementAt, widthAt, source, contentsAt, holdsWord}
 use Rattle.behaviour.specs.Run.{gives-now, holds-next}
-use Rattle.schedule.specs.Lines.{scheduleWords, widthOn, placeOn, nodeOn, codeOn, Line, InnerLine}
+use Rattle.schedule.specs.Lines.{scheduleWords, part, widthOn, placeOn, nodeOn, codeOn, Line, InnerLine}
 
 -- what the node of line i gives, one that is not loaded
 unfoldable pub lineWord : Net → List ℕ → List ℕ → ℕ → ℕ
@@ -40,6 +40,10 @@ pub record GateAsks (l : List ℕ) (o : Op) (i : ℕ) (ws : List ℕ) : Type 0 w
   pub near : (p : ℕ) → p < 3 → placeOn l i p < 2048
   pub narrow : widthOn l i ≤ 16
   pub fits : gateOn l o i ws < 65536
+
+-- the operand of a choose gate that its selector, 0 or 1, names
+abbrev pub chosenOn : List ℕ → ℕ → List ℕ → ℕ
+chosenOn l i ws = getD ws (part l i (5 - getD ws (placeOn l i 0) 0)) 0
 
 -- ---- what is asked for a line, and for the lines from one place up to another, all of one code
 

@@ -1,13 +1,13 @@
 -- Lines are done one after the other. Assumes nothing.
 use mathlib.Core.Path.{_≡_, refl, sym, ap, subst, _∙_}
 use mathlib.Core.Logic.{⊎-elim}
-use mathlib.Core.Bool.{Bool, true, false, false≢true}
+use mathlib.Core.Bool.{true, false, cond, false≢true}
 use mathlib.Core.List.{List}
-use Prim.Native.Nat.{ℕ, suc, _+_, _-_, _^_, _≤_, _<_}
+use Prim.Native.Nat.{ℕ, zero, suc, _+_, _-_, _^_, _≤_, _<_}
 use native.Mathlib.Omega.{arith}
 use lib.ListN.{length, getD, set, length-set}
 use lib.Seq.{getD-set-same, getD-set-other}
-use lib.Dec.{lit<}
+use lib.Dec.{eqb, lit<}
 use lib.Pow.{pow-mono}
 use Rattle.lists.specs.Paths.{pick, off-eq}
 use Rattle.lists.specs.BelowLaws.{lt-or-le, lt-suc-split}
@@ -18,7 +18,7 @@ use Rattle.gates.specs.Gate.{gateWord}
 use Rattle.netlist.specs.declared.Element.{Element}
 use Rattle.netlist.specs.declared.Element.the-variants.{Input, Output, Register, Async, Clocked, Gate}
 use Rattle.netlist.specs.Net.{noTable, spelled, Net, elementAt, widthAt, source, operands, withinClock, within-few, contentsAt, isInput, holdsWord, isMemory, Sourced}
-use Rattle.netlist.specs.Checks.{WellFormed}
+use Rattle.netlist.specs.Checks.{ElementWidths, WellFormed}
 use Rattle.circuit.specs.Code.{codeOf, coded, code-below, opBy, elementBy, numberOr, tableOr}
 use Rattle.behaviour.specs.Run.{gives-now}
 use Rattle.behaviour.specs.Fits.{contents-fit}
@@ -27,8 +27,8 @@ use Rattle.evaluate.specs.Clock.{loaded}
 use Rattle.evaluate.specs.Settling.{now-same}
 use Rattle.evaluate.specs.Coded.{named, async-memory, async-gives, gate-gives, memory-asks, memory-gives, part-low}
 use Rattle.schedule.specs.declared.Sizes.{Sizes}
-use Rattle.schedule.specs.Lines.{scheduleWords, codeOn, runEnd, widthOn, placeOn, heldOn, nodeOn, asked, askedBy, isInner, InnerLine, Scheduled}
-use Rattle.stepping.specs.Step.{lineWord, FitTo, Stepped, gateOn, GateAsks, OnLine, OnRun}
+use Rattle.schedule.specs.Lines.{scheduleWords, part, codeOn, runEnd, widthOn, placeOn, heldOn, nodeOn, asked, askedBy, isInner, InnerLine, Scheduled}
+use Rattle.stepping.specs.Step.{lineWord, FitTo, Stepped, gateOn, GateAsks, chosenOn, OnLine, OnRun}
 
 -- ---- what gives its word within the clock
 
@@ -206,7 +206,34 @@ module _ {N : Net} {l ws : List ℕ} {i : ℕ} (wf : WellFormed N) (t : OnLine N
   pub line-gives : {x : ℕ} → x ≡ gateOn l o i ws → x ≡ lineWord N l ws i
   line-gives e = e ∙ gate-line (t .inner) (told (t .inner) k o a b h r) ws
 
+-- the operand that a selector names
+chosen-is : (l : List ℕ) (i : ℕ) (ws : List ℕ) → getD ws (placeOn l i 0) 0 < 2 → chosenOn l i ws ≡ gateOn l Choose i ws
+unfolding operate
+chosen-is l i ws h = by-selector (getD ws (placeOn l i 0) 0) h
+  where
+    by-selector : (s : ℕ) → s < 2 → getD ws (part l i (5 - s)) 0 ≡ cond (eqb s 1) (getD ws (placeOn l i 1) 0) (getD ws (placeOn l i 2) 0)
+    by-selector zero k = refl
+    by-selector (suc zero) k = refl
+    by-selector (suc (suc s)) k = absurd (omega arith)
+
 module _ {N : Net} {l ws : List ℕ} {i : ℕ} (wf : WellFormed N) (t : OnLine N l ws i) {c : ℕ} (a : c ≡ codeOn l i) where
+  -- a choose gate's selector has one bit
+  module _ (h : c ≡ 17) where
+    is-choose : Gate Choose ≡ elementAt N (nodeOn l i)
+    unfolding opBy pick
+    is-choose = told (t .inner) 17 Choose a h (omega arith) refl
+
+    pub choose-asks : (scheduleWords ≤ length l) × (i < 2048) × (2048 ≤ length ws) × ((p : ℕ) → p < 3 → placeOn l i p < 2048) × (getD ws (placeOn l i 0) 0 < 2)
+    choose-asks =
+        let v = nodeOn l i in
+        let one-bit : widthAt N (source N v 0) ≡ 1
+        = subst (λ (y : Element). ElementWidths (N .tables) y (widthAt N v) (λ p. widthAt N (source N v p))) (sym is-choose) (wf .widths v (t .inner .line .inside)) .0 in
+        let low : getD ws (placeOn l i 0) 0 < 2 ^ widthAt N (source N v 0) = operand-fits (t .inner) ws (t .fit) 0 (subst (λ (y : Element). 0 < withinClock y) is-choose (lit< tt)) in
+        (t .room, t .few, t .space, t .inner .line .near, subst (λ (w : ℕ). getD ws (placeOn l i 0) 0 < 2 ^ w) one-bit low)
+
+    pub choose-gives : {x : ℕ} → x ≡ chosenOn l i ws → x ≡ lineWord N l ws i
+    choose-gives e = e ∙ chosen-is l i ws (choose-asks .4) ∙ gate-line (t .inner) is-choose ws
+
   -- the lowest bit of a part is a bit of its source
   pub part-narrow : c ≡ 18 → heldOn l i < 256
   unfolding opBy pick Sourced
@@ -272,7 +299,7 @@ run-coded {N} {l} {ws} {from = from} {to = to} t e = subst (λ (k : ℕ). OnRun 
 pub scheduled-run : {N : Net} {l : List ℕ} {z : Sizes} (ws : List ℕ) {i e : ℕ} → Scheduled N l z → z .inputs + z .held ≤ i → i < z .lines → e ≡ runEnd l i → 2048 ≤ length ws
     → FitTo N l ws i → (i < e) × (e ≤ z .lines) × OnRun N l ws (codeOn l i) i e
 scheduled-run {N} {l} {z} ws {i} t low h is space fit =
-    let r = t .runs i low h in
+    let r = t .runs i h in
     rw is (
       r .0 .some,
       r .1,

@@ -7,12 +7,13 @@ use schedule::CODE;
 use schedule::HELD;
 use schedule::OUTPUTS;
 use schedule::PLACES;
+use schedule::RUN_END;
 use schedule::Sizes;
 use schedule::part_of;
 use words::word_at;
 ghost use mathlib.Core.Path.{_≡_};
 ghost use mathlib.Core.Bool.{true};
-ghost use Prim.Native.Nat.{_+_, _*_, _/_, _<_, _≤_};
+ghost use Prim.Native.Nat.{ℕ, _+_, _*_, _/_, _<_, _≤_};
 ghost use lib.ListN.{length, getD};
 ghost use Rattle.words.specs.Words.{word};
 ghost use Rattle.netlist.specs.Net.{Net};
@@ -21,9 +22,10 @@ ghost use Rattle.circuit.specs.Opened.{opened};
 ghost use Rattle.behaviour.specs.Run.{runOutputs, runState};
 ghost use Rattle.behaviour.specs.Runs.{inputWidths, stateWidths, fitting};
 ghost use Rattle.behaviour.specs.Service.{bytesOf, wordsIn};
-ghost use Rattle.schedule.specs.Lines.{Scheduled};
-ghost use Rattle.stepping.specs.Step.{lineNext, FitTo, OnHolder};
+ghost use Rattle.schedule.specs.Lines.{scheduleWords, placeOn, Scheduled};
+ghost use Rattle.stepping.specs.Step.{lineNext, FitTo};
 ghost use Rattle.stepping.specs.Putting.{Put};
+ghost use Rattle.stepping.specs.Looking.{Read};
 ghost use Rattle.stepping.specs.Clock.{stateIn};
 
 // The words of a row: a place for each line, then the next state until the clock is over.
@@ -44,34 +46,53 @@ pub fn put_row(bytes: &[u8], from: usize, words: &mut [u16])
     }
 }
 
-// What a register or a clocked ROM on line i holds after the clock.
-fn next_word(file: &[u8], net: &[u16], schedule: &[u16], i: usize, words: &[u16]) -> u16
-    ghost { Net }
-    requires { λ N. opened 𝓤 (now file) (now net) N (WellFormed N × OnHolder N (now schedule) (now words) i) }
-    ensures { λ N r. ⌜ r ≡ lineNext N (now (schedule .entry)) (now (words .entry)) i ⌝ }
+// Puts what each register and clocked ROM reads behind the places, so that no register sees another's new word.
+fn put_read(schedule: &[u16], sizes: Sizes, words: &mut [u16])
+    requires { ⌜ (scheduleWords ≤ length (now schedule)) × (sizes .inputs + sizes .held ≤ 2048) × (sizes .held ≤ 1024) × (3072 ≤ length (now words))
+        × ((j : ℕ) → j < sizes .held → placeOn (now schedule) (sizes .inputs + j) 0 < 2048) ⌝ }
+    ensures { λ _. ⌜ Put 2048 (sizes .held) (λ j. getD (now (words .entry)) (placeOn (now (schedule .entry)) (sizes .inputs + j) 0) 0) (now (words .entry)) (now (words .exit)) ⌝ }
 {
-    let word = words[part_of(schedule, i, PLACES)];
-    if part_of(schedule, i, CODE) == 2 {
-        word
-    } else {
-        table_word(file, net, part_of(schedule, i, HELD), wide(word))
+    let from = sizes.inputs;
+    let held = sizes.held;
+    let mut j: usize = 0;
+    while j < held {
+        words[NEXT + j] = words[part_of(schedule, from + j, PLACES)];
+        j = j + 1;
     }
 }
 
-// Puts the next state behind the places, so that no register sees another's new word.
+// Puts the table's word where a clocked ROM has read an address. What a register has read is what it holds next: runs of registers are passed by, since a branch
+// for each of them would be foreseen wrong where a ROM stands among them.
+fn look_up(file: &[u8], net: &[u16], schedule: &[u16], sizes: Sizes, words: &mut [u16])
+    ghost { Net }
+    requires { λ N. opened 𝓤 (now file) (now net) N (WellFormed N × Scheduled N (now schedule) sizes × (3072 ≤ length (now words))
+        × FitTo N (now schedule) (now words) (sizes .lines) × Read (now schedule) sizes (now words)) }
+    ensures { λ N _. ⌜ Put 2048 (sizes .held) (λ j. lineNext N (now (schedule .entry)) (now (words .entry)) (sizes .inputs + j)) (now (words .entry)) (now (words .exit)) ⌝ }
+{
+    let from = sizes.inputs;
+    let held = sizes.held;
+    let front = from + held;
+    let mut i = from;
+    while i < front {
+        if part_of(schedule, i, CODE) == 2 {
+            i = part_of(schedule, i, RUN_END);
+        } else {
+            let at = NEXT + i - from;
+            words[at] = table_word(file, net, part_of(schedule, i, HELD), wide(words[at]));
+            i = i + 1;
+        }
+    }
+}
+
+// Puts the next state behind the places.
 fn put_next(file: &[u8], net: &[u16], schedule: &[u16], sizes: Sizes, words: &mut [u16])
     ghost { Net }
     requires { λ N. opened 𝓤 (now file) (now net) N (WellFormed N × Scheduled N (now schedule) sizes × (3072 ≤ length (now words))
         × FitTo N (now schedule) (now words) (sizes .lines)) }
     ensures { λ N _. ⌜ Put 2048 (sizes .held) (λ j. lineNext N (now (schedule .entry)) (now (words .entry)) (sizes .inputs + j)) (now (words .entry)) (now (words .exit)) ⌝ }
 {
-    let from = sizes.inputs;
-    let held = sizes.held;
-    let mut j: usize = 0;
-    while j < held {
-        words[NEXT + j] = next_word(file, net, schedule, from + j, words);
-        j = j + 1;
-    }
+    put_read(schedule, sizes, words);
+    look_up(file, net, schedule, sizes, words);
 }
 
 // Brings the next state to the state's places.

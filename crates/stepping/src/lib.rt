@@ -14,13 +14,13 @@ use schedule::WIDTH;
 use schedule::part_of;
 use words::Op;
 ghost use mathlib.Core.Path.{_≡_};
-ghost use Prim.Native.Nat.{_+_, _^_, _<_, _≤_};
-ghost use lib.ListN.{length};
-ghost use Rattle.netlist.specs.Net.{Net, widthAt};
+ghost use Prim.Native.Nat.{ℕ, _+_, _<_, _≤_};
+ghost use lib.ListN.{length, getD};
+ghost use Rattle.netlist.specs.Net.{Net};
 ghost use Rattle.netlist.specs.Checks.{WellFormed};
 ghost use Rattle.circuit.specs.Opened.{opened};
-ghost use Rattle.schedule.specs.Lines.{scheduleWords, codeOn, nodeOn, Scheduled};
-ghost use Rattle.stepping.specs.Step.{lineWord, FitTo, Stepped, gateOn, GateAsks, OnLine, OnRun};
+ghost use Rattle.schedule.specs.Lines.{scheduleWords, codeOn, placeOn, Scheduled};
+ghost use Rattle.stepping.specs.Step.{lineWord, FitTo, Stepped, gateOn, GateAsks, chosenOn, OnLine, OnRun};
 
 // The word of an operation on line i.
 fn gate_word(schedule: &[u16], op: Op, i: usize, words: &[u16]) -> u16
@@ -42,6 +42,16 @@ fn rom_word(file: &[u8], net: &[u16], schedule: &[u16], i: usize, words: &[u16])
 {
     let address = words[part_of(schedule, i, PLACES)];
     table_word(file, net, part_of(schedule, i, HELD), wide(address))
+}
+
+// The word of a choose gate on line i: the selector's word tells which of the two other places is read. Selectors follow no pattern, so there is no branch on it.
+fn choose_word(schedule: &[u16], i: usize, words: &[u16]) -> u16
+    requires { ⌜ (scheduleWords ≤ length (now schedule)) × (i < 2048) × (2048 ≤ length (now words)) × ((p : ℕ) → p < 3 → placeOn (now schedule) i p < 2048)
+        × (getD (now words) (placeOn (now schedule) i 0) 0 < 2) ⌝ }
+    ensures { λ r. ⌜ r ≡ chosenOn (now (schedule .entry)) i (now (words .entry)) ⌝ }
+{
+    let selector = wide(words[part_of(schedule, i, PLACES)]);
+    words[part_of(schedule, i, PLACES + 2 - selector)]
 }
 
 // The word of line i, whose code is known.
@@ -73,7 +83,7 @@ fn line_word(
         14 => gate_word(schedule, Op::Subtract, i, words),
         15 => gate_word(schedule, Op::Equal, i, words),
         16 => gate_word(schedule, Op::Less, i, words),
-        17 => gate_word(schedule, Op::Choose, i, words),
+        17 => choose_word(schedule, i, words),
         18 => gate_word(
             schedule,
             Op::Part(part_of(schedule, i, HELD) as u8),

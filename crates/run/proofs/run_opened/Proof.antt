@@ -8,7 +8,7 @@ use Rattle.circuit.specs.Circuit.{netOf}
 use Rattle.behaviour.specs.Service.{bytesOf}
 use Rattle.evaluate.specs.declared.Row.the-variants.{Outputs, State}
 use Rattle.run.proofs.Joined.{inputs-fit, run-fits, run-outputs, run-state}
-use Rattle.run.proofs.Outcomes.{ran, counted, row-bytes, row-room, row-other, row-length, run-inputs, run-room, run-refused, run-done}
+use Rattle.run.proofs.Outcomes.{ran, counted, row-bytes, row-near, row-room, row-other, row-length, run-inputs, run-room, run-refused, run-done}
 use borrow.Author.Needs.{needs}
 use Rattle.run.proofs.run_opened.Statement.{statement}
 use Rattle.run.proofs.run_opened.Tie as tie
@@ -82,7 +82,14 @@ slice-aggregate-store-words-2 : tie.Need-slice-aggregate-store-words-2
 slice-aggregate-store-words-2 c = search needs
 
 store-words-requires : tie.Need-store-words-requires
-store-words-requires c κs = row-bytes (c .before .before .before .before .before .before .before .before .before .before .before .before .before .before .before .before .before .row-members2 .last .1 .1 .1 .0) (c .before .before .before .before .before .before .before .before .before .before .before .before .before .before .before .before .before .row-members2 .ensures .1) (c .before .before .before .before .before .before .before .before .before .before .before .before .before .before .before .if2 .taken)
+store-words-requires c κs =
+    let a = c .before .before .before .before .before .before .before .before .before .before .before .before .before .before .before .before .before .before .before .before .before .before .before .before .before .before .before .before .before .before .before .before .args in
+    let p = c .before .before .before .before .before .before .before .before .before .before .before .before .before .before .before .before .before .before .before .before .before .before .before .before .before .before .before .before .before .before .before .before .pre in
+    let x = c .before .before .before .before .before .before .before .before .before .before .before .before .before .before .before .before .before .before .before .before .before .load-row .ensures .1 (c .before .before .before .before .before .before .before .before .before .before .before .before .before .before .before .before .before .before .before .if1 .taken) in
+    let y = c .before .before .before .before .before .before .before .before .load-row2 .ensures .1 (c .before .before .before .before .before .before .if3 .taken) in (
+      row-bytes (c .before .before .before .before .before .before .before .before .before .before .before .before .before .before .before .before .before .row-members2 .last .1 .1 .1 .0) (c .before .before .before .before .before .before .before .before .before .before .before .before .before .before .before .before .before .row-members2 .ensures .1) (c .before .before .before .before .before .before .before .before .before .before .before .before .before .before .before .if2 .taken),
+      λ j h. omega (arith, row-near (netOf (a .file .now) (a .net .now)) Outputs (c .before .before .before .before .before .before .before .before .before .before .before .before .before .before .before .before .before .row-members2 .ensures .0) (p .0 .few) j h, x .kept, y .kept, c .before .before .before .before .evaluate .ensures .kept),
+    )
 
 array-share-prefix-holders-2 : tie.Need-array-share-prefix-holders-2
 array-share-prefix-holders-2 c = search needs

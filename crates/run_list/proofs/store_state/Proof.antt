@@ -9,7 +9,7 @@ use Rattle.lists.specs.Lists.{below}
 use Rattle.lists.specs.BelowLaws.{length-below, getD-upFrom}
 use Rattle.behaviour.specs.Service.{bytesOf}
 use Rattle.evaluate.specs.Filling.{Filling, fill-none, fill-put, fill-room, fill-kept, fill-all}
-use Rattle.run_list.specs.Rows.{section-listed}
+use Rattle.lists.specs.Sections.{section-listed}
 use Rattle.run_list.proofs.store_state.Statement.{statement}
 use Rattle.run_list.proofs.store_state.Tie as tie
 

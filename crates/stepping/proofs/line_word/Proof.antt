@@ -2,10 +2,10 @@
 use mathlib.Core.Path.{refl, sym, ap, _∙_}
 use native.Mathlib.Omega.{arith}
 use Rattle.lists.specs.Paths.{pick}
-use Rattle.words.specs.declared.Op.the-variants.{Constant, Not, And, Or, Xor, Add, Subtract, Equal, Less, Choose, Part, Join}
+use Rattle.words.specs.declared.Op.the-variants.{Constant, Not, And, Or, Xor, Add, Subtract, Equal, Less, Part, Join}
 use Rattle.circuit.specs.Code.{opBy}
 use borrow.Author.Needs.{needs}
-use Rattle.stepping.specs.StepLaws.{line-asks, line-gives, part-narrow, last-code, only-join}
+use Rattle.stepping.specs.StepLaws.{line-asks, line-gives, choose-asks, choose-gives, part-narrow, last-code, only-join}
 use Rattle.stepping.proofs.line_word.Statement.{statement}
 use Rattle.stepping.proofs.line_word.Tie as tie
 
@@ -54,24 +54,23 @@ gate-word-requires-9 : tie.Need-gate-word-requires-9
 unfolding opBy pick
 gate-word-requires-9 c κs = let p = c .before .before .before .before .before .pre in line-asks (p .1 .0) (p .1 .1) 16 Less (p .1 .2) (c .match .keys10) (omega arith) refl
 
-gate-word-requires-10 : tie.Need-gate-word-requires-10
-unfolding opBy pick
-gate-word-requires-10 c κs = let p = c .before .before .before .before .before .pre in line-asks (p .1 .0) (p .1 .1) 17 Choose (p .1 .2) (c .match .keys11) (omega arith) refl
+choose-word-requires : tie.Need-choose-word-requires
+choose-word-requires c κs = let p = c .before .before .before .before .before .pre in choose-asks (p .1 .0) (p .1 .1) (p .1 .2) (c .match .keys11)
 
 part-of-requires-2 : tie.Need-part-of-requires-2
 part-of-requires-2 c κs = search needs
 
-cast-t21 : tie.Need-cast-t21
+cast-t20 : tie.Need-cast-t20
 unfolding opBy pick
-cast-t21 c = let p = c .before .before .before .before .before .before .pre in omega (arith, c .part-of2 .ensures .0, part-narrow (p .1 .0) (p .1 .1) (p .1 .2) (c .before .match .keys12))
+cast-t20 c = let p = c .before .before .before .before .before .before .pre in omega (arith, c .part-of2 .ensures .0, part-narrow (p .1 .0) (p .1 .1) (p .1 .2) (c .before .match .keys12))
+
+gate-word-requires-10 : tie.Need-gate-word-requires-10
+unfolding opBy pick
+gate-word-requires-10 c κs = let p = c .before .before .before .before .before .before .pre in line-asks (p .1 .0) (p .1 .1) 18 (Part _) (p .1 .2) (c .before .match .keys12) (omega arith) (ap Part (c .part-of2 .ensures .0))
 
 gate-word-requires-11 : tie.Need-gate-word-requires-11
 unfolding opBy pick
-gate-word-requires-11 c κs = let p = c .before .before .before .before .before .before .pre in line-asks (p .1 .0) (p .1 .1) 18 (Part _) (p .1 .2) (c .before .match .keys12) (omega arith) (ap Part (c .part-of2 .ensures .0))
-
-gate-word-requires-12 : tie.Need-gate-word-requires-12
-unfolding opBy pick
-gate-word-requires-12 c κs = let p = c .before .before .before .before .before .pre in line-asks (p .1 .0) (p .1 .1) 19 Join (p .1 .2) (only-join (last-code (p .1 .1 .inner) (p .1 .2) (c .match .rest .0 .0 .0 .0 .0 .0 .0 .0 .0 .0 .0 .1)) (c .match .rest .0 .0 .0 .0 .0 .0 .0 .0 .0 .0 .1) (c .match .rest .0 .0 .0 .0 .0 .0 .0 .0 .0 .1) (c .match .rest .0 .0 .0 .0 .0 .0 .0 .0 .1) (c .match .rest .0 .0 .0 .0 .0 .0 .0 .1) (c .match .rest .0 .0 .0 .0 .0 .0 .1) (c .match .rest .0 .0 .0 .0 .0 .1) (c .match .rest .0 .0 .0 .0 .1) (c .match .rest .0 .0 .0 .1) (c .match .rest .0 .0 .1) (c .match .rest .0 .1) (c .match .rest .1)) (omega arith) refl
+gate-word-requires-11 c κs = let p = c .before .before .before .before .before .pre in line-asks (p .1 .0) (p .1 .1) 19 Join (p .1 .2) (only-join (last-code (p .1 .1 .inner) (p .1 .2) (c .match .rest .0 .0 .0 .0 .0 .0 .0 .0 .0 .0 .0 .1)) (c .match .rest .0 .0 .0 .0 .0 .0 .0 .0 .0 .0 .1) (c .match .rest .0 .0 .0 .0 .0 .0 .0 .0 .0 .1) (c .match .rest .0 .0 .0 .0 .0 .0 .0 .0 .1) (c .match .rest .0 .0 .0 .0 .0 .0 .0 .1) (c .match .rest .0 .0 .0 .0 .0 .0 .1) (c .match .rest .0 .0 .0 .0 .0 .1) (c .match .rest .0 .0 .0 .0 .1) (c .match .rest .0 .0 .0 .1) (c .match .rest .0 .0 .1) (c .match .rest .0 .1) (c .match .rest .1)) (omega arith) refl
 
 returns : tie.Need-returns
 returns c = search needs
@@ -113,16 +112,15 @@ unfolding opBy pick
 returns-10 c = let p = c .before .before .before .before .before .before .pre in line-gives (p .1 .0) (p .1 .1) 16 Less (p .1 .2) (c .before .match .keys10) (omega arith) refl (c .gate-word9 .ensures)
 
 returns-11 : tie.Need-returns-11
-unfolding opBy pick
-returns-11 c = let p = c .before .before .before .before .before .before .pre in line-gives (p .1 .0) (p .1 .1) 17 Choose (p .1 .2) (c .before .match .keys11) (omega arith) refl (c .gate-word10 .ensures)
+returns-11 c = let p = c .before .before .before .before .before .before .pre in choose-gives (p .1 .0) (p .1 .1) (p .1 .2) (c .before .match .keys11) (c .choose-word .ensures)
 
 returns-12 : tie.Need-returns-12
 unfolding opBy pick
-returns-12 c = let p = c .before .before .before .before .before .before .before .pre in line-gives (p .1 .0) (p .1 .1) 18 (Part _) (p .1 .2) (c .before .before .match .keys12) (omega arith) (ap Part (c .before .part-of2 .ensures .0)) (c .gate-word11 .ensures)
+returns-12 c = let p = c .before .before .before .before .before .before .before .pre in line-gives (p .1 .0) (p .1 .1) 18 (Part _) (p .1 .2) (c .before .before .match .keys12) (omega arith) (ap Part (c .before .part-of2 .ensures .0)) (c .gate-word10 .ensures)
 
 returns-13 : tie.Need-returns-13
 unfolding opBy pick
-returns-13 c = let p = c .before .before .before .before .before .before .pre in line-gives (p .1 .0) (p .1 .1) 19 Join (p .1 .2) (only-join (last-code (p .1 .1 .inner) (p .1 .2) (c .before .match .rest .0 .0 .0 .0 .0 .0 .0 .0 .0 .0 .0 .1)) (c .before .match .rest .0 .0 .0 .0 .0 .0 .0 .0 .0 .0 .1) (c .before .match .rest .0 .0 .0 .0 .0 .0 .0 .0 .0 .1) (c .before .match .rest .0 .0 .0 .0 .0 .0 .0 .0 .1) (c .before .match .rest .0 .0 .0 .0 .0 .0 .0 .1) (c .before .match .rest .0 .0 .0 .0 .0 .0 .1) (c .before .match .rest .0 .0 .0 .0 .0 .1) (c .before .match .rest .0 .0 .0 .0 .1) (c .before .match .rest .0 .0 .0 .1) (c .before .match .rest .0 .0 .1) (c .before .match .rest .0 .1) (c .before .match .rest .1)) (omega arith) refl (c .gate-word12 .ensures)
+returns-13 c = let p = c .before .before .before .before .before .before .pre in line-gives (p .1 .0) (p .1 .1) 19 Join (p .1 .2) (only-join (last-code (p .1 .1 .inner) (p .1 .2) (c .before .match .rest .0 .0 .0 .0 .0 .0 .0 .0 .0 .0 .0 .1)) (c .before .match .rest .0 .0 .0 .0 .0 .0 .0 .0 .0 .0 .1) (c .before .match .rest .0 .0 .0 .0 .0 .0 .0 .0 .0 .1) (c .before .match .rest .0 .0 .0 .0 .0 .0 .0 .0 .1) (c .before .match .rest .0 .0 .0 .0 .0 .0 .0 .1) (c .before .match .rest .0 .0 .0 .0 .0 .0 .1) (c .before .match .rest .0 .0 .0 .0 .0 .1) (c .before .match .rest .0 .0 .0 .0 .1) (c .before .match .rest .0 .0 .0 .1) (c .before .match .rest .0 .0 .1) (c .before .match .rest .0 .1) (c .before .match .rest .1)) (omega arith) refl (c .gate-word11 .ensures)
 
 pub line-word-spec : {M : Type 1} → statement M
 line-word-spec =
@@ -140,11 +138,11 @@ line-word-spec =
     gate-word-requires-7
     gate-word-requires-8
     gate-word-requires-9
-    gate-word-requires-10
+    choose-word-requires
     part-of-requires-2
-    cast-t21
+    cast-t20
+    gate-word-requires-10
     gate-word-requires-11
-    gate-word-requires-12
     returns
     returns-2
     returns-3

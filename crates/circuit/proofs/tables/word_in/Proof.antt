@@ -28,13 +28,16 @@ word-at-requires : tie.Need-word-at-requires
 word-at-requires c κs =
     let a = c .before .before .before .args in
     let p = c .before .before .before .pre in
-    omega (arith, word-stands (a .file .now) (a .at) (p .1) (a .a) (p .2) (c .if1 .taken) .inside)
+    omega (arith, word-stands (a .file .now) (a .at) (p .1) (a .a) (p .2) (c .if1 .taken) .inside, p .0)
 
-filled-word-requires : tie.Need-filled-word-requires
-filled-word-requires c κs =
+filled-place-requires : tie.Need-filled-place-requires
+filled-place-requires c κs =
     let a = c .before .before .before .args in
     let p = c .before .before .before .pre in
     (p .0, p .1, p .2, two-tags (a .file .now) (a .at) (p .1) (c .if1 .left))
+
+word-at-requires-2 : tie.Need-word-at-requires-2
+word-at-requires-2 c κs = search needs
 
 returns : tie.Need-returns
 returns c =
@@ -54,6 +57,7 @@ word-in-spec =
     mul-word-at
     add-word-at-2
     word-at-requires
-    filled-word-requires
+    filled-place-requires
+    word-at-requires-2
     returns
     returns-2)

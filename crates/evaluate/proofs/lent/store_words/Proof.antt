@@ -16,7 +16,7 @@ abbrev μ-loop : tie.MeasureT-loop
 μ-loop members words out₀ i₀ out i = length members - i
 
 loop-holds : tie.Need-loop-holds Inv-loop μ-loop
-loop-holds c = fill-none (c .before .before .before .pre)
+loop-holds c = fill-none (c .before .before .before .pre .0)
 
 mul-put-word : tie.Need-mul-put-word Inv-loop μ-loop
 mul-put-word c = omega arith
@@ -30,8 +30,8 @@ shared-slice-read-wide c = omega arith
 wide-requires : tie.Need-wide-requires Inv-loop μ-loop
 wide-requires c κs = search needs
 
-number-at-requires : tie.Need-number-at-requires Inv-loop μ-loop
-number-at-requires c κs = search needs
+read-at-requires : tie.Need-read-at-requires Inv-loop μ-loop
+read-at-requires c κs = omega (arith, c .before .before .before .before .before .before .before .before .pre .1 (c .before .before .before .before .loop .i) (c .before .before .before .loop-test .taken), c .wide .ensures .0)
 
 put-word-requires : tie.Need-put-word-requires Inv-loop μ-loop
 put-word-requires c κs = fill-room (c .before .before .before .before .before .loop .inv) (c .before .before .before .before .loop-test .taken)
@@ -45,7 +45,7 @@ loop-less c = omega arith
 loop-again : tie.Need-loop-again Inv-loop μ-loop
 loop-again c =
     let a = c .before .before .before .before .before .before .before .before .before .before .before .before .args in
-    let more = fill-put (c .before .before .before .before .before .before .before .before .loop .inv) (c .before .before .before .before .before .before .before .loop-test .taken) (c .before .before .before .before .wide .ensures .0) (c .before .before .before .number-at .result) (c .before .before .before .number-at .ensures) in
+    let more = fill-put (c .before .before .before .before .before .before .before .before .loop .inv) (c .before .before .before .before .before .before .before .loop-test .taken) (c .before .before .before .before .wide .ensures .0) (c .before .before .before .read-at .result) (c .before .before .before .read-at .ensures) in
     subst (λ (l : List ℕ). Filling (λ u. getD (a .words .now) u 0) (a .members .now) (a .out .now) l (c .before .before .before .before .before .before .before .before .loop .i + 1)) (sym (c .before .before .put-word .ensures)) more
 
 same-length : tie.Need-same-length Inv-loop μ-loop
@@ -65,7 +65,7 @@ store-words-spec =
     mul-wide
     shared-slice-read-wide
     wide-requires
-    number-at-requires
+    read-at-requires
     put-word-requires
     add-i
     loop-less

@@ -4,11 +4,12 @@ use mathlib.Core.List.{List, map}
 use Prim.Native.Nat.{ℕ, _+_, _-_, _≤_}
 use native.Mathlib.Omega.{arith}
 use lib.ListN.{length, getD, take, drop}
+use Rattle.lists.specs.Sections.{section-length}
 use Rattle.behaviour.specs.Service.{bytesOf}
 use Rattle.schedule.specs.Lines.{outputsFrom}
 use borrow.Author.Needs.{needs}
 use Rattle.stepping.specs.NextLaws.{few-held}
-use Rattle.stepping.specs.Clock.{row-ready, ready-fit, clock-outputs, clock-state}
+use Rattle.stepping.specs.Clock.{outputs-near, row-ready, ready-fit, clock-outputs, clock-state}
 use Rattle.stepping.proofs.clock.clock.Statement.{statement}
 use Rattle.stepping.proofs.clock.clock.Tie as tie
 
@@ -35,7 +36,13 @@ part-store-words-end : tie.Need-part-store-words-end
 part-store-words-end c = search needs
 
 store-words-requires : tie.Need-store-words-requires
-store-words-requires c κs = search needs
+store-words-requires c κs =
+    let a = c .before .before .before .before .before .before .before .before .before .before .before .before .before .before .before .before .before .before .args in
+    let p = c .before .before .before .before .before .before .before .before .before .before .before .before .before .before .before .before .before .before .pre in
+    let m : outputsFrom + a .sizes .outputs - outputsFrom ≡ a .sizes .outputs = omega arith in
+    let long = section-length outputsFrom (outputsFrom + a .sizes .outputs - outputsFrom) (a .schedule .now) (omega (arith, p .1 .1 .room, p .1 .1 .few-outputs)) in
+    let space : 3072 ≤ length (c .before .before .before .before .before .before .step-lines .last .1 .1 .1 .1 .0) = omega (arith, p .1 .2, c .before .before .before .before .before .before .step-lines .ensures .kept, c .before .before .before .before .before .before .before .before .before .before .put-row .ensures .kept) in
+    (omega (arith, p .1 .4, long), λ j h. omega (arith, outputs-near (p .1 .1) m j h, space))
 
 put-next-requires : tie.Need-put-next-requires
 put-next-requires c κs =
