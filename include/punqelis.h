@@ -23,8 +23,8 @@
  * A pointer must not be NULL, also where its length is 0. Memory that a function writes (state,
  * outputs, out, by_source) must not overlap with any other memory lent to the same call. When a
  * call is refused, no lent byte has changed. Bytes past the result are never changed.
- * There is no heap. Of the stack both rewritings and the preview take 87 KiB and every other
- * function at most 43 KiB, as measured.
+ * There is no heap. Of the stack both rewritings, the preview and a list of runs take 87 KiB and
+ * every other function at most 43 KiB, as measured.
  *
  * Refusals, in the order in which they are looked for. 17 stands among 1 to 10: a function that is
  * said to check 1 to 10 checks it with them.
