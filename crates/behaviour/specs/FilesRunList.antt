@@ -3,7 +3,6 @@ use mathlib.Core.Path.{_≡_, refl, sym, ap, ap₂}
 use mathlib.Core.Bool.{true, cond, _&&_}
 use mathlib.Core.List.{List, [], _++_, map, append-nil, append-cancel-left}
 use Prim.Native.Nat.{ℕ}
-use lib.ListN.{length}
 use Rattle.lists.specs.Lists.{below, concatMap}
 use Rattle.netlist.specs.Net.{Net}
 use Rattle.netlist.specs.Checks.{WellFormed}
@@ -13,12 +12,12 @@ use Rattle.netlist.specs.declared.Verdict.the-variants.{Fine, Refuses}
 use Rattle.behaviour.specs.Run.{resetState}
 use Rattle.behaviour.specs.Runs.{inputWidths, outputWidths, stateWidths}
 use Rattle.behaviour.specs.Alike.{Alike}
-use Rattle.behaviour.specs.Service.{bytesOf, fittingBytes, Ran, resetFile, Entry, Shown, runsFile}
-use Rattle.behaviour.specs.Entries.{stateBytes, stateFits, stateAfter}
+use Rattle.behaviour.specs.Service.{bytesOf, fittingBytes, Ran, Entry, Shown, runsFile}
+use Rattle.behaviour.specs.Entries.{stateFits, stateAfter}
 use Rattle.behaviour.specs.EntriesLaws.{after-append, runs-append}
 use Rattle.behaviour.specs.Only15.{reset-fitted, reset-accepted, states-fit}
 use Rattle.behaviour.specs.FilesAlike.{files-alike}
-use Rattle.behaviour.specs.RunList.{rowBytes, byteRow, fittingRows, roomForRows, entries, listBy, runListFile}
+use Rattle.behaviour.specs.RunList.{rowBytes, byteRow, fittingRows, roomForRows, entries, listBy, CallsAlike}
 use Rattle.behaviour.specs.RunListLaws.{list-file}
 
 module _ (s s′ st st′ : List ℕ) (alike : (es : List Entry) → runsFile s st es ≡ runsFile s′ st′ es) (es fs : List Entry) where
@@ -47,15 +46,8 @@ unfolding entries
 entries-alike N M ok ins outs clocks =
     ap₂ (λ (is os : List ℕ). map (λ i. record { inputs = byteRow (rowBytes is) ins i; outputs = byteRow (rowBytes os) outs i }) (below clocks)) (ok .inputs) (ok .outputs)
 
-pub files-run-list : (s s′ : List ℕ) (N M : Net) → Alike N M → ReadAs s N → ReadAs s′ M
-    → (st st′ : List ℕ) → length st ≡ stateBytes s → length st′ ≡ stateBytes s′ → (es : List Entry) (ins outs : List ℕ) (clocks : ℕ)
-    → let old = runListFile s (stateAfter s (resetFile s st .state) es) ins outs clocks in
-    let new = runListFile s′ (stateAfter s′ (resetFile s′ st′ .state) es) ins outs clocks in
-    (old .answer ≡ new .answer)
-    × (old .outputs ≡ new .outputs)
-    × ((more : List Entry)
-    × (old .state ≡ stateAfter s (resetFile s st .state) (es ++ more))
-    × (new .state ≡ stateAfter s′ (resetFile s′ st′ .state) (es ++ more)))
+-- THE THEOREM, of two files whose netlists are alike
+pub files-run-list : (s s′ : List ℕ) (N M : Net) → Alike N M → ReadAs s N → ReadAs s′ M → CallsAlike s s′
 files-run-list s s′ N M ok file file′ st st′ h h′ es ins outs clocks =
     let t = stateAfter s (bytesOf (resetState N)) es in
     let t′ = stateAfter s′ (bytesOf (resetState M)) es in

@@ -1,6 +1,7 @@
 pub mod Run
 pub mod Runs
 pub mod Service
+pub mod Parts
 pub mod Gives
 pub mod Exists
 pub mod Unique

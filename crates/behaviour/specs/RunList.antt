@@ -1,6 +1,7 @@
 -- A list of runs in one call: as many clocks as the caller says, each with its row of the inputs and its row of the outputs. Assumes nothing.
+use mathlib.Core.Path.{_≡_}
 use mathlib.Core.Bool.{Bool, cond, _&&_}
-use mathlib.Core.List.{List, map}
+use mathlib.Core.List.{List, _++_, map}
 use Prim.Native.Nat.{ℕ, _*_}
 use lib.ListN.{length, take, drop}
 use lib.Dec.{eqb}
@@ -11,8 +12,8 @@ use Rattle.netlist.specs.File.{decode, decodedNet, fileVerdict, answer, given}
 use Rattle.netlist.specs.declared.Verdict.{Verdict}
 use Rattle.netlist.specs.declared.Verdict.the-variants.{Fine, Refuses}
 use Rattle.behaviour.specs.Runs.{inputWidths, outputWidths, stateWidths}
-use Rattle.behaviour.specs.Service.{fittingBytes, Ran, Entry, Shown, runsFile}
-use Rattle.behaviour.specs.Entries.{stateAfter}
+use Rattle.behaviour.specs.Service.{fittingBytes, resetFile, Ran, Entry, Shown, runsFile}
+use Rattle.behaviour.specs.Entries.{stateBytes, stateAfter}
 
 -- two bytes for each width; and the i-th row of so many bytes
 abbrev pub rowBytes : List ℕ → ℕ
@@ -55,3 +56,17 @@ unfoldable pub runListFile : List ℕ → List ℕ → List ℕ → List ℕ →
 runListFile s st ins outs clocks =
     let N = decodedNet (decode s) in
     listBy (onward (fileVerdict s) (listVerdict N st ins outs clocks)) s (entries N ins outs clocks) st outs
+
+-- two files answer calls alike: from reset, after any runs, one call on each
+abbrev pub CallsAlike : List ℕ → List ℕ → Type 0
+CallsAlike s s′ =
+    (st st′ : List ℕ) → length st ≡ stateBytes s → length st′ ≡ stateBytes s′ → (es : List Entry) (ins outs : List ℕ) (clocks : ℕ)
+    → let old = runListFile s (stateAfter s (resetFile s st .state) es) ins outs clocks in
+    let new = runListFile s′ (stateAfter s′ (resetFile s′ st′ .state) es) ins outs clocks in
+    -- the answer and the bytes are the same
+    (old .answer ≡ new .answer)
+    × (old .outputs ≡ new .outputs)
+    -- and both states are as after some more runs on both, so that whatever comes next is the same again
+    × ((more : List Entry)
+    × (old .state ≡ stateAfter s (resetFile s st .state) (es ++ more))
+    × (new .state ≡ stateAfter s′ (resetFile s′ st′ .state) (es ++ more)))

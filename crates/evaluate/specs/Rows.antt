@@ -1,10 +1,12 @@
 -- The rows of words that a host lends, one word for each node of a class, by node number. Assumes nothing.
-use mathlib.Core.Path.{_≡_}
+use mathlib.Core.Path.{_≡_, sym, _∙_}
 use mathlib.Core.Bool.{Bool, true, false}
 use mathlib.Core.List.{List}
 use Prim.Native.Nat.{ℕ, _^_, _<_}
 use lib.ListN.{length, getD}
 use Rattle.lists.specs.Lists.{select}
+use Rattle.lists.specs.ListsLaws.{length-select}
+use Rattle.lists.specs.SelectLaws.{members-count}
 use Rattle.netlist.specs.Net.{Net, size, elementAt, widthAt, isInput, isOutput, holdsWord}
 use Rattle.netlist.specs.declared.Element.{Element}
 use Rattle.behaviour.specs.Service.{wordsIn}
@@ -27,6 +29,10 @@ rowMembers row N = select (rowTest row N) (λ v. v) (size N)
 -- the widths of a row's words
 abbrev pub rowWidths : Row → Net → List ℕ
 rowWidths row N = select (rowTest row N) (λ v. widthAt N v) (size N)
+
+-- as many as its members
+pub row-count : (row : Row) (N : Net) {members : List ℕ} → members ≡ rowMembers row N → length members ≡ length (rowWidths row N)
+row-count row N e = members-count (rowTest row N) (size N) e ∙ sym (length-select (rowTest row N) (λ v. widthAt N v) (size N))
 
 -- a row, from the words of all nodes
 abbrev pub rowOf : Row → Net → List ℕ → List ℕ

@@ -2,21 +2,20 @@
 -- both the same runs, one by one or in calls, and then one call more, for as many clocks as you like: the answer and every output byte are the same on both. And of
 -- any file: a call that is accepted is just its runs, one after the other, and none of them is refused; it leaves their last state and all that they showed. This rules out
 -- a call that skips a clock or makes one too many, mixes up the rows of two clocks, starts again from reset, or is right on the old file alone.
--- `s` is the old file, `s′` the new one; `st` and `st′` are the states lent; `es` are the runs before the call, or the call's own; `ins` and `outs` are the rows lent. Assumes nothing.
+-- `s` is the old file, `s′` the new one; `CallsAlike` is spelled out beside the call's definition. `st` is the state lent, `ins` and `outs` are the rows; `es` are the call's runs. Assumes nothing.
 use mathlib.Core.Path.{_≡_, sym, subst}
 use mathlib.Core.Bool.{true}
-use mathlib.Core.List.{List, _++_}
+use mathlib.Core.List.{List}
 use Prim.Native.Nat.{ℕ}
-use lib.ListN.{length}
 use Rattle.lists.specs.Lists.{concatMap}
 use Rattle.netlist.specs.declared.Answer.the-variants.{Accepted}
 use Rattle.netlist.specs.VerdictLaws.{reader-fine}
 use Rattle.netlist.specs.File.{decode, decodedNet, ReadAs}
 use Rattle.codec.specs.Bytes.{Bytes}
 use Rattle.codec.specs.DecodeWithin.{decode-within}
-use Rattle.behaviour.specs.Service.{resetFile, Entry, Shown, runsFile}
-use Rattle.behaviour.specs.Entries.{stateBytes, EachShows, stateAfter}
-use Rattle.behaviour.specs.RunList.{entries, listVerdict, runListFile}
+use Rattle.behaviour.specs.Service.{Shown, runsFile}
+use Rattle.behaviour.specs.Entries.{EachShows, stateAfter}
+use Rattle.behaviour.specs.RunList.{entries, listVerdict, runListFile, CallsAlike}
 use Rattle.behaviour.specs.RunListLaws.{list-accepted}
 use Rattle.behaviour.specs.NoneRefused.{list-runs}
 use Rattle.behaviour.specs.FilesRunList.{files-run-list}
@@ -28,34 +27,12 @@ use Rattle.retiming.specs.Past.{Past, past}
 use Rattle.retiming.specs.RewrittenFile.{Past13, past-13, netlists-alike, new-read}
 use Rattle.retiming.specs.declared.Mode.the-variants.{Plain, Late}
 
-pub demand-3-list : (s s′ : List ℕ) → Bytes s → IsAccepted s → s′ ≡ rewrittenFile s
-    -- from reset, after any runs: one call on each
-    → (st st′ : List ℕ) → length st ≡ stateBytes s → length st′ ≡ stateBytes s′ → (es : List Entry) (ins outs : List ℕ) (clocks : ℕ)
-    → let old = runListFile s (stateAfter s (resetFile s st .state) es) ins outs clocks in
-    let new = runListFile s′ (stateAfter s′ (resetFile s′ st′ .state) es) ins outs clocks in
-    -- the answer and the bytes are the same
-    (old .answer ≡ new .answer)
-    × (old .outputs ≡ new .outputs)
-    -- and both states are as after some more runs on both, so that whatever comes next is the same again
-    × ((more : List Entry)
-    × (old .state ≡ stateAfter s (resetFile s st .state) (es ++ more))
-    × (new .state ≡ stateAfter s′ (resetFile s′ st′ .state) (es ++ more)))
+pub demand-3-list : (s s′ : List ℕ) → Bytes s → IsAccepted s → s′ ≡ rewrittenFile s → CallsAlike s s′
 demand-3-list s s′ b a e =
     let t : Past13 Plain s = past-13 Plain s a in
     files-run-list s s′ (t .net) (rewritten (t .net)) (netlists-alike Plain s b t) (t .file) (subst (λ (x : List ℕ). ReadAs x (rewritten (t .net))) (sym e) (new-read Plain s b t))
 
-pub late-start-list : (s s′ : List ℕ) → Bytes s → IsLateAccepted s → s′ ≡ lateFile s
-    -- from reset, after any runs: one call on each
-    → (st st′ : List ℕ) → length st ≡ stateBytes s → length st′ ≡ stateBytes s′ → (es : List Entry) (ins outs : List ℕ) (clocks : ℕ)
-    → let old = runListFile s (stateAfter s (resetFile s st .state) es) ins outs clocks in
-    let new = runListFile s′ (stateAfter s′ (resetFile s′ st′ .state) es) ins outs clocks in
-    -- the answer and the bytes are the same
-    (old .answer ≡ new .answer)
-    × (old .outputs ≡ new .outputs)
-    -- and both states are as after some more runs on both, so that whatever comes next is the same again
-    × ((more : List Entry)
-    × (old .state ≡ stateAfter s (resetFile s st .state) (es ++ more))
-    × (new .state ≡ stateAfter s′ (resetFile s′ st′ .state) (es ++ more)))
+pub late-start-list : (s s′ : List ℕ) → Bytes s → IsLateAccepted s → s′ ≡ lateFile s → CallsAlike s s′
 late-start-list s s′ b a e =
     let t : Past13 Late s = past-13 Late s a in
     files-run-list s s′ (t .net) (lateStarted (t .net)) (netlists-alike Late s b t) (t .file) (subst (λ (x : List ℕ). ReadAs x (lateStarted (t .net))) (sym e) (new-read Late s b t))

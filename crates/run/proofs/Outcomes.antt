@@ -8,23 +8,15 @@ use lib.ListN.{length, getD, take}
 use lib.Seq.{length-take-le}
 use borrow.Author.Tests.{eq-eqb, ne-eqb}
 use Rattle.lists.specs.BelowLaws.{and-left, eqb-true}
-use Rattle.lists.specs.ListsLaws.{length-select}
-use Rattle.netlist.specs.Net.{Net, size, widthAt}
+use Rattle.netlist.specs.Net.{Net, size}
 use Rattle.netlist.specs.declared.Verdict.{Verdict}
 use Rattle.netlist.specs.declared.Verdict.the-variants.{Fine, Refuses}
 use Rattle.behaviour.specs.Runs.{inputWidths, outputWidths, stateWidths, fitting}
-use Rattle.behaviour.specs.Service.{wordsIn, roomFor, fittingBytes, Filled, resetBy, resetNet, Ran, runBy, runNet}
-use Rattle.evaluate.specs.Rows.{rowTest, rowMembers, rowWidths}
-use Rattle.lists.specs.SelectLaws.{members-count, member}
+use Rattle.behaviour.specs.Service.{wordsIn, roomFor, fittingBytes, resetBy, resetNet, Ran, runBy, runNet}
+use Rattle.evaluate.specs.Rows.{rowTest, rowMembers, rowWidths, row-count}
+use Rattle.lists.specs.SelectLaws.{member}
 use Rattle.evaluate.specs.declared.Row.{Row}
 use Rattle.evaluate.specs.declared.Row.the-variants.{Inputs, Outputs, State}
-
--- a contract says each part
-pub filled : {x y : Filled} → y ≡ x → (x .answer ≡ y .answer) × (x .state ≡ y .state)
-filled e = (sym (ap (λ (f : Filled). f .answer) e), sym (ap (λ (f : Filled). f .state) e))
-
-pub ran : {x y : Ran} → y ≡ x → (x .answer ≡ y .answer) × (x .state ≡ y .state) × (x .outputs ≡ y .outputs)
-ran e = (sym (ap (λ (r : Ran). r .answer) e), sym (ap (λ (r : Ran). r .state) e), sym (ap (λ (r : Ran). r .outputs) e))
 
 -- ---- a row's length
 
@@ -38,7 +30,7 @@ row-bytes l h e = e ∙ ap (2 *_) (counted l h)
 -- the first k of a work area are a row's members
 module _ (N : Net) (row : Row) {k : ℕ} (l : List ℕ) (m : (take k l ≡ rowMembers row N) × (k ≤ length l)) (b : List ℕ) where
   words : length (rowWidths row N) ≡ k
-  words = length-select (rowTest row N) (λ v. widthAt N v) (size N) ∙ sym (counted l (m .1) ∙ members-count (rowTest row N) (size N) (m .0))
+  words = sym (counted l (m .1) ∙ row-count row N (m .0))
 
   pub row-room : length b ≡ 2 * k → roomFor (rowWidths row N) b ≡ true
   row-room h = eq-eqb (length b) (2 * length (rowWidths row N)) (omega (arith, words))

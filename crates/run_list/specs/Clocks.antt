@@ -2,7 +2,7 @@
 use mathlib.Core.Path.{_≡_, refl, sym, ap, ap₂, _∙_}
 use mathlib.Core.Bool.{true}
 use mathlib.Core.List.{List, _++_, append-nil, append-assoc}
-use Prim.Native.Nat.{ℕ, suc, _+_, _-_, _*_, _/_, _≤_}
+use Prim.Native.Nat.{ℕ, suc, _+_, _-_, _*_, _/_, _≤_, _<_}
 use native.Mathlib.Nat.{mul-zero, mul-suc}
 use native.Mathlib.Numerals.{add-one}
 use native.Mathlib.Omega.{arith}
@@ -12,6 +12,7 @@ use Rattle.lists.specs.Lists.{below, concatMap}
 use Rattle.lists.specs.BelowLaws.{and-left, and-right, eqb-true, getD-listed}
 use Rattle.lists.specs.ListsLaws.{length-select}
 use Rattle.lists.specs.SelectLaws.{concat-more}
+use Rattle.lists.specs.Sections.{section-length}
 use Rattle.words.specs.Words.{word}
 use Rattle.netlist.specs.Net.{Net, size, widthAt}
 use Rattle.netlist.specs.Checks.{WellFormed}
@@ -20,7 +21,7 @@ use Rattle.behaviour.specs.Runs.{inputWidths, outputWidths, stateWidths, fittin
 use Rattle.behaviour.specs.Service.{bytesOf, wordsIn, roomFor, fittingBytes}
 use Rattle.behaviour.specs.WordBytes.{length-bytes, length-wordsIn, words-of-bytes, fitting-bytes}
 use Rattle.behaviour.specs.Only15.{outputs-long}
-use Rattle.behaviour.specs.RunList.{rowBytes, fittingRows}
+use Rattle.behaviour.specs.RunList.{rowBytes, byteRow, roomForRows, fittingRows}
 use Rattle.behaviour.specs.RunListLaws.{statesFrom, rowWords, state-from-fits}
 use Rattle.evaluate.specs.Rows.{rowTest}
 use Rattle.evaluate.specs.declared.Row.the-variants.{Inputs, Outputs, State}
@@ -28,6 +29,7 @@ use Rattle.schedule.specs.declared.Sizes.{Sizes}
 use Rattle.schedule.specs.Lines.{Scheduled}
 use Rattle.stepping.specs.Putting.{Put, put-at, put-section}
 use Rattle.stepping.specs.Clock.{stateIn}
+use Rattle.run_list.specs.Rows.{row-inside, row-part}
 
 -- what clock i shows, from the state st and the rows ins
 abbrev pub shownAt : Net → List ℕ → List ℕ → ℕ → List ℕ
@@ -101,6 +103,31 @@ scheduled-rows {N} t = (
   ap (2 *_) (t .all-ports ∙ sym (length-select (rowTest Inputs N) (λ v. widthAt N v) (size N))),
   ap (2 *_) (t .all-outputs ∙ sym (length-select (rowTest Outputs N) (λ v. widthAt N v) (size N))),
 )
+
+-- where the rows of clock i lie: from is where its inputs begin, to its outputs
+module _ {N : Net} {l : List ℕ} {z : Sizes} (s : Scheduled N l z) (clocks : ℕ) {i : ℕ} (y : i < clocks) where
+  module _ (ins : List ℕ) (rows : fittingRows clocks (inputWidths N) ins ≡ true) {from : ℕ} (e : from ≡ rowBytes (inputWidths N) * i) where
+    inside : rowBytes (inputWidths N) * i + rowBytes (inputWidths N) ≤ length ins
+    inside = row-inside (inputWidths N) ins clocks i y (eqb-true (and-left (roomForRows clocks (inputWidths N) ins) _ rows))
+
+    pub input-end : from + 2 * z .inputs ≤ length ins
+    input-end = omega (arith, inside, scheduled-rows s .0)
+
+    pub input-row : take (from + 2 * z .inputs - from) (drop from ins) ≡ byteRow (rowBytes (inputWidths N)) ins i
+    input-row = row-part (rowBytes (inputWidths N)) ins i e (ap (from +_) (scheduled-rows s .0))
+
+    pub input-long : length (take (from + 2 * z .inputs - from) (drop from ins)) ≡ 2 * z .inputs
+    input-long = ap length input-row ∙ section-length (rowBytes (inputWidths N) * i) (rowBytes (inputWidths N)) ins inside ∙ sym (scheduled-rows s .0)
+
+  module _ (before : List ℕ) (room : roomForRows clocks (outputWidths N) before ≡ true) where
+    there : rowBytes (outputWidths N) * i + rowBytes (outputWidths N) ≤ length before
+    there = row-inside (outputWidths N) before clocks i y (eqb-true room)
+
+    pub output-end : {to : ℕ} → to ≡ rowBytes (outputWidths N) * i → to + 2 * z .outputs ≤ length before
+    output-end e = omega (arith, there, scheduled-rows s .1)
+
+    pub output-room : (st ins : List ℕ) {state outs : List ℕ} → Clocked N st ins before i state outs → length outs ≡ length before
+    output-room st ins t = clocked-length N st ins before t (omega (arith, there))
 
 module _ (N : Net) (wf : WellFormed N) (st ins : List ℕ) (clocks : ℕ) (rows : fittingRows clocks (inputWidths N) ins ≡ true) (fit : fitting (stateWidths N) st ≡ true) where
   pub clocked-fits : {before : List ℕ} {i : ℕ} {state outs : List ℕ} → Clocked N st ins before i state outs → i ≤ clocks → fitting (stateWidths N) state ≡ true

@@ -45,10 +45,6 @@ pub record Asked (N : Net) (order st ins outs : List ℕ) (clocks : ℕ) : Type 
   pub room : roomForRows clocks (outputWidths N) outs ≡ true
   pub state : fittingBytes (stateWidths N) st ≡ true
 
--- a contract says each part
-pub ran : {x y : Ran} → y ≡ x → (x .answer ≡ y .answer) × (x .state ≡ y .state) × (x .outputs ≡ y .outputs)
-ran e = (sym (ap (λ (r : Ran). r .answer) e), sym (ap (λ (r : Ran). r .state) e), sym (ap (λ (r : Ran). r .outputs) e))
-
 module _ (N : Net) (st ins outs : List ℕ) (clocks : ℕ) where
   pub net-as : {v : Verdict} → v ≡ listVerdict N st ins outs clocks → listNet N st ins outs clocks ≡ netBy v N st ins outs clocks
   unfolding listNet

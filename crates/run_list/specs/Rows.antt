@@ -9,12 +9,10 @@ use lib.ListN.{length, take, drop}
 use lib.Dec.{eqb}
 use borrow.Author.Tests.{eq-eqb, ne-eqb}
 use Rattle.lists.specs.BelowLaws.{and-right, eqb-true, eqb-differ, allBelow-elim, allBelow-intro}
-use Rattle.lists.specs.ListsLaws.{length-select}
-use Rattle.lists.specs.SelectLaws.{members-count}
-use Rattle.netlist.specs.Net.{Net, size, widthAt}
+use Rattle.netlist.specs.Net.{Net}
 use Rattle.behaviour.specs.Service.{fittingBytes}
 use Rattle.behaviour.specs.RunList.{rowBytes, byteRow, roomForRows, fittingRows}
-use Rattle.evaluate.specs.Rows.{rowTest, rowMembers, rowWidths}
+use Rattle.evaluate.specs.Rows.{rowMembers, rowWidths, row-count}
 use Rattle.evaluate.specs.declared.Row.{Row}
 
 -- ---- how many: n bytes in rows of r
@@ -65,5 +63,4 @@ row-part r b i {at} {e} a h = let k : e - at ≡ r = omega arith in ap₂ (λ (x
 
 -- two bytes for each member of a row
 pub row-length : (N : Net) (row : Row) {members : List ℕ} → members ≡ rowMembers row N → 2 * length members ≡ rowBytes (rowWidths row N)
-row-length N row e =
-    ap (2 *_) (members-count (rowTest row N) (size N) e ∙ sym (length-select (rowTest row N) (λ v. widthAt N v) (size N)))
+row-length N row e = ap (2 *_) (row-count row N e)

@@ -3,7 +3,8 @@ use mathlib.Core.Path.{ap, _∙_}
 use Rattle.netlist.specs.declared.Answer.the-variants.{Accepted}
 use Rattle.circuit.specs.Circuit.{netOf}
 use Rattle.evaluate.specs.declared.Row.the-variants.{State}
-use Rattle.run.proofs.Outcomes.{filled, counted, row-bytes, row-room, row-other, reset-done, reset-refused}
+use Rattle.behaviour.specs.Parts.{filled}
+use Rattle.run.proofs.Outcomes.{counted, row-bytes, row-room, row-other, reset-done, reset-refused}
 use borrow.Author.Needs.{needs}
 use Rattle.run.proofs.reset_opened.Statement.{statement}
 use Rattle.run.proofs.reset_opened.Tie as tie

@@ -1,7 +1,7 @@
 -- What opening tells, and the reset over the netlist.
 use mathlib.Core.Path.{_∙_}
 use Rattle.checks.specs.Opens.{opened-refused, opened-fine}
-use Rattle.run.proofs.Outcomes.{filled}
+use Rattle.behaviour.specs.Parts.{filled}
 use Rattle.run.proofs.Opened.{reset-turned-away, reset-taken}
 use borrow.Author.Needs.{needs}
 use Rattle.run.proofs.reset_state.Statement.{statement}

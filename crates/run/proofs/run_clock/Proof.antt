@@ -3,7 +3,7 @@ use mathlib.Core.Path.{_∙_}
 use native.Mathlib.Omega.{arith}
 use Rattle.codec.specs.Bytes.{Bytes}
 use Rattle.checks.specs.Opens.{opened-refused, opened-fine, open-formed, open-inside}
-use Rattle.run.proofs.Outcomes.{ran}
+use Rattle.behaviour.specs.Parts.{ran}
 use Rattle.run.proofs.Opened.{run-turned-away, run-taken}
 use borrow.Author.Needs.{needs}
 use Rattle.run.proofs.run_clock.Statement.{statement}

@@ -6,9 +6,10 @@ use native.Mathlib.Omega.{arith}
 use Rattle.netlist.specs.declared.Answer.the-variants.{Accepted}
 use Rattle.circuit.specs.Circuit.{netOf}
 use Rattle.behaviour.specs.Service.{bytesOf}
+use Rattle.behaviour.specs.Parts.{ran}
 use Rattle.evaluate.specs.declared.Row.the-variants.{Outputs, State}
 use Rattle.run.proofs.Joined.{inputs-fit, run-fits, run-outputs, run-state}
-use Rattle.run.proofs.Outcomes.{ran, counted, row-bytes, row-near, row-room, row-other, row-length, run-inputs, run-room, run-refused, run-done}
+use Rattle.run.proofs.Outcomes.{counted, row-bytes, row-near, row-room, row-other, row-length, run-inputs, run-room, run-refused, run-done}
 use borrow.Author.Needs.{needs}
 use Rattle.run.proofs.run_opened.Statement.{statement}
 use Rattle.run.proofs.run_opened.Tie as tie

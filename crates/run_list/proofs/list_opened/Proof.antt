@@ -5,11 +5,12 @@ use Rattle.netlist.specs.Net.{Net}
 use Rattle.netlist.specs.declared.Answer.the-variants.{Accepted}
 use Rattle.circuit.specs.Circuit.{orderOf, netOf}
 use Rattle.behaviour.specs.Service.{bytesOf, wordsIn}
+use Rattle.behaviour.specs.Parts.{ran}
 use Rattle.behaviour.specs.RunListLaws.{statesFrom, rowWords}
 use Rattle.behaviour.specs.NoneRefused.{list-tests}
 use borrow.Author.Needs.{needs}
 use Rattle.run_list.specs.Clocks.{shownAt}
-use Rattle.run_list.specs.ListNet.{Asked, ran, net-as}
+use Rattle.run_list.specs.ListNet.{Asked, net-as}
 use Rattle.run_list.proofs.list_opened.Statement.{statement}
 use Rattle.run_list.proofs.list_opened.Tie as tie
 

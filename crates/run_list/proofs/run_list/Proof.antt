@@ -5,7 +5,8 @@ use Rattle.codec.specs.Bytes.{Bytes}
 use Rattle.checks.specs.Opens.{opened-refused, opened-fine, open-formed, open-inside}
 use Rattle.behaviour.specs.RunListLaws.{list-turned-away}
 use borrow.Author.Needs.{needs}
-use Rattle.run_list.specs.ListNet.{ran, list-net}
+use Rattle.behaviour.specs.Parts.{ran}
+use Rattle.run_list.specs.ListNet.{list-net}
 use Rattle.run_list.proofs.run_list.Statement.{statement}
 use Rattle.run_list.proofs.run_list.Tie as tie
 

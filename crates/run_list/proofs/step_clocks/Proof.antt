@@ -7,16 +7,14 @@ use native.Mathlib.Numerals.{add-one}
 use native.Mathlib.Omega.{arith}
 use lib.ListN.{length}
 use borrow.Rule.Slice.PartMut.{mid-len}
-use Rattle.lists.specs.BelowLaws.{and-left, eqb-true}
-use Rattle.lists.specs.Sections.{section-length}
+use Rattle.lists.specs.BelowLaws.{eqb-true}
 use Rattle.circuit.specs.Circuit.{netOf}
 use Rattle.behaviour.specs.Runs.{inputWidths, outputWidths, fitting}
 use Rattle.behaviour.specs.Service.{wordsIn}
-use Rattle.behaviour.specs.RunList.{rowBytes, roomForRows}
+use Rattle.behaviour.specs.RunList.{rowBytes}
 use Rattle.behaviour.specs.RunListLaws.{row-fits}
 use Rattle.stepping.specs.Clock.{stateIn}
-use Rattle.run_list.specs.Rows.{row-inside, row-part}
-use Rattle.run_list.specs.Clocks.{Clocked, clocked-none, clocked-length, clocked-all, clocked-more, scheduled-rows, clocked-fits, shown-long}
+use Rattle.run_list.specs.Clocks.{Clocked, clocked-none, clocked-length, clocked-all, clocked-more, scheduled-rows, input-end, input-row, input-long, output-end, output-room, clocked-fits, shown-long}
 use Rattle.run_list.proofs.step_clocks.Statement.{statement}
 use Rattle.run_list.proofs.step_clocks.Tie as tie
 
@@ -43,13 +41,7 @@ add-from-end c =
     let p = c .before .before .before .before .before .before .before .before .before .before .pre in
     let t = c .before .loop in
     let y = c .loop-test .taken in
-    let N = netOf (a .file .now) (a .net .now) in
-    let w = scheduled-rows (p .1 .1) in
-    let long : length (a .inputs .now) ≡ rowBytes (inputWidths N) * a .clocks = eqb-true (and-left (roomForRows (a .clocks) (inputWidths N) (a .inputs .now)) _ (p .1 .3)) in
-    let room : length (a .outputs .now) ≡ rowBytes (outputWidths N) * a .clocks = eqb-true (p .1 .4) in
-    let k = row-inside (inputWidths N) (a .inputs .now) (a .clocks) (t .i) y long in
-    let m = row-inside (outputWidths N) (a .outputs .now) (a .clocks) (t .i) y room in
-    omega (arith, k, w .0, t .inv .1)
+    omega (arith, input-end (p .1 .1) (a .clocks) y (a .inputs .now) (p .1 .3) (t .inv .1))
 
 add-to-end : tie.Need-add-to-end Inv-loop μ-loop
 add-to-end c =
@@ -57,13 +49,7 @@ add-to-end c =
     let p = c .before .before .before .before .before .before .before .before .before .before .pre in
     let t = c .before .loop in
     let y = c .loop-test .taken in
-    let N = netOf (a .file .now) (a .net .now) in
-    let w = scheduled-rows (p .1 .1) in
-    let long : length (a .inputs .now) ≡ rowBytes (inputWidths N) * a .clocks = eqb-true (and-left (roomForRows (a .clocks) (inputWidths N) (a .inputs .now)) _ (p .1 .3)) in
-    let room : length (a .outputs .now) ≡ rowBytes (outputWidths N) * a .clocks = eqb-true (p .1 .4) in
-    let k = row-inside (inputWidths N) (a .inputs .now) (a .clocks) (t .i) y long in
-    let m = row-inside (outputWidths N) (a .outputs .now) (a .clocks) (t .i) y room in
-    omega (arith, m, w .1, t .inv .2)
+    omega (arith, output-end (p .1 .1) (a .clocks) y (a .outputs .now) (p .1 .4) (t .inv .2))
 
 sub-clock : tie.Need-sub-clock Inv-loop μ-loop
 sub-clock c = omega arith
@@ -77,13 +63,7 @@ part-clock-end c =
     let p = c .before .before .before .before .before .before .before .before .before .before .pre in
     let t = c .before .loop in
     let y = c .loop-test .taken in
-    let N = netOf (a .file .now) (a .net .now) in
-    let w = scheduled-rows (p .1 .1) in
-    let long : length (a .inputs .now) ≡ rowBytes (inputWidths N) * a .clocks = eqb-true (and-left (roomForRows (a .clocks) (inputWidths N) (a .inputs .now)) _ (p .1 .3)) in
-    let room : length (a .outputs .now) ≡ rowBytes (outputWidths N) * a .clocks = eqb-true (p .1 .4) in
-    let k = row-inside (inputWidths N) (a .inputs .now) (a .clocks) (t .i) y long in
-    let m = row-inside (outputWidths N) (a .outputs .now) (a .clocks) (t .i) y room in
-    omega (arith, k, w .0, t .inv .1)
+    omega (arith, input-end (p .1 .1) (a .clocks) y (a .inputs .now) (p .1 .3) (t .inv .1))
 
 sub-clock-2 : tie.Need-sub-clock-2 Inv-loop μ-loop
 sub-clock-2 c = omega arith
@@ -97,13 +77,8 @@ part-clock-end-2 c =
     let p = c .before .before .before .before .before .before .before .before .before .before .before .before .pre in
     let t = c .before .before .before .loop in
     let y = c .before .before .loop-test .taken in
-    let N = netOf (a .file .now) (a .net .now) in
-    let w = scheduled-rows (p .1 .1) in
-    let long : length (a .inputs .now) ≡ rowBytes (inputWidths N) * a .clocks = eqb-true (and-left (roomForRows (a .clocks) (inputWidths N) (a .inputs .now)) _ (p .1 .3)) in
-    let room : length (a .outputs .now) ≡ rowBytes (outputWidths N) * a .clocks = eqb-true (p .1 .4) in
-    let k = row-inside (inputWidths N) (a .inputs .now) (a .clocks) (t .i) y long in
-    let m = row-inside (outputWidths N) (a .outputs .now) (a .clocks) (t .i) y room in
-    omega (arith, m, w .1, t .inv .2, clocked-length N (stateIn (a .sizes) (a .words .now)) (a .inputs .now) (a .outputs .now) (t .inv .4) (omega (arith, m)))
+    let long = output-room (p .1 .1) (a .clocks) y (a .outputs .now) (p .1 .4) (stateIn (a .sizes) (a .words .now)) (a .inputs .now) (t .inv .4) in
+    omega (arith, output-end (p .1 .1) (a .clocks) y (a .outputs .now) (p .1 .4) (t .inv .2), long)
 
 clock-requires : tie.Need-clock-requires Inv-loop μ-loop
 clock-requires c κs =
@@ -112,20 +87,16 @@ clock-requires c κs =
     let t = c .before .before .before .before .loop in
     let y = c .before .before .before .loop-test .taken in
     let N = netOf (a .file .now) (a .net .now) in
-    let w = scheduled-rows (p .1 .1) in
-    let long : length (a .inputs .now) ≡ rowBytes (inputWidths N) * a .clocks = eqb-true (and-left (roomForRows (a .clocks) (inputWidths N) (a .inputs .now)) _ (p .1 .3)) in
-    let room : length (a .outputs .now) ≡ rowBytes (outputWidths N) * a .clocks = eqb-true (p .1 .4) in
-    let k = row-inside (inputWidths N) (a .inputs .now) (a .clocks) (t .i) y long in
-    let m = row-inside (outputWidths N) (a .outputs .now) (a .clocks) (t .i) y room in
-    let e = row-part (rowBytes (inputWidths N)) (a .inputs .now) (t .i) (t .inv .1) (ap (t .from +_) (w .0)) in (
+    let long = output-room (p .1 .1) (a .clocks) y (a .outputs .now) (p .1 .4) (stateIn (a .sizes) (a .words .now)) (a .inputs .now) (t .inv .4) in (
       p .0,
       (
         p .1 .0,
         p .1 .1,
         omega (arith, p .1 .2, t .inv .3),
-        ap length e ∙ section-length (rowBytes (inputWidths N) * t .i) (rowBytes (inputWidths N)) (a .inputs .now) k ∙ sym (w .0),
-        mid-len (t .to) (t .to + 2 * a .sizes .outputs) (t .outputs) (omega (arith, m, w .1, t .inv .2, clocked-length N (stateIn (a .sizes) (a .words .now)) (a .inputs .now) (a .outputs .now) (t .inv .4) (omega (arith, m)))) ∙ omega arith,
-        ap (λ (l : List ℕ). fitting (inputWidths N) (wordsIn l)) e ∙ row-fits N (a .inputs .now) (a .clocks) (p .1 .3) (t .i) y,
+        input-long (p .1 .1) (a .clocks) y (a .inputs .now) (p .1 .3) (t .inv .1),
+        mid-len (t .to) (t .to + 2 * a .sizes .outputs) (t .outputs) (omega (arith, output-end (p .1 .1) (a .clocks) y (a .outputs .now) (p .1 .4) (t .inv .2), long)) ∙ omega arith,
+        ap (λ (l : List ℕ). fitting (inputWidths N) (wordsIn l)) (input-row (p .1 .1) (a .clocks) y (a .inputs .now) (p .1 .3) (t .inv .1))
+            ∙ row-fits N (a .inputs .now) (a .clocks) (p .1 .3) (t .i) y,
         clocked-fits N (p .1 .0) (stateIn (a .sizes) (a .words .now)) (a .inputs .now) (a .clocks) (p .1 .3) (p .1 .5) (t .inv .4) (t .inv .0),
       ),
     )
@@ -144,16 +115,12 @@ loop-again c =
     let y = c .before .before .before .before .before .before .before .before .loop-test .taken in
     let N = netOf (a .file .now) (a .net .now) in
     let w = scheduled-rows (p .1 .1) in
-    let long : length (a .inputs .now) ≡ rowBytes (inputWidths N) * a .clocks = eqb-true (and-left (roomForRows (a .clocks) (inputWidths N) (a .inputs .now)) _ (p .1 .3)) in
-    let room : length (a .outputs .now) ≡ rowBytes (outputWidths N) * a .clocks = eqb-true (p .1 .4) in
-    let k = row-inside (inputWidths N) (a .inputs .now) (a .clocks) (t .i) y long in
-    let m = row-inside (outputWidths N) (a .outputs .now) (a .clocks) (t .i) y room in
     let r = c .before .before .before .before .clock .ensures in (
       omega arith,
       ap₂ _+_ (t .inv .1) (w .0) ∙ sym (mul-suc (rowBytes (inputWidths N)) (t .i)) ∙ ap (rowBytes (inputWidths N) *_) (sym (add-one (t .i))),
       ap₂ _+_ (t .inv .2) (w .1) ∙ sym (mul-suc (rowBytes (outputWidths N)) (t .i)) ∙ ap (rowBytes (outputWidths N) *_) (sym (add-one (t .i))),
       c .before .before .before .before .clock .kept .1 .1 .1 .1 .1 .0 ∙ t .inv .3,
-      clocked-more N (stateIn (a .sizes) (a .words .now)) (a .inputs .now) (a .outputs .now) (t .inv .4) (ap wordsIn (row-part (rowBytes (inputWidths N)) (a .inputs .now) (t .i) (t .inv .1) (ap (t .from +_) (w .0)))) (r .1) (r .0) (t .inv .2) (ap (t .to +_) (w .1))
+      clocked-more N (stateIn (a .sizes) (a .words .now)) (a .inputs .now) (a .outputs .now) (t .inv .4) (ap wordsIn (input-row (p .1 .1) (a .clocks) y (a .inputs .now) (p .1 .3) (t .inv .1))) (r .1) (r .0) (t .inv .2) (ap (t .to +_) (w .1))
           (shown-long N (p .1 .0) (stateIn (a .sizes) (a .words .now)) (a .inputs .now) (a .clocks) (p .1 .3) (p .1 .5) (t .i)),
     )
 
