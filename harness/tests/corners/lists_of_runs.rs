@@ -4,7 +4,7 @@ use harness::design::Design;
 use harness::netlist::Kind;
 use harness::{ListOfClocks, Refusal};
 
-use super::words_and_states::netlist;
+use super::words_and_states::{netlist, WRONG_STATES};
 
 /// State and outputs after a list, or its refusal, which leaves both as they were.
 type Taken<'t> = Result<(&'t [u8], &'t [u8]), Refusal>;
@@ -121,16 +121,7 @@ fn clocks_that_wrap() {
 
 #[test]
 fn state_that_does_not_fit() {
-    for state in [
-        &[][..],
-        &[0, 5],
-        &[0, 5, 0],
-        &[0, 5, 0, 2, 0],
-        &[0, 5, 0, 2, 0, 0],
-        &[0, 8, 0, 2],
-        &[0, 5, 0, 4],
-        &[0, 5, 1, 2],
-    ] {
+    for state in WRONG_STATES {
         refused(state, THREE, 12, 3, 16);
     }
 }

@@ -98,24 +98,23 @@ fn outputs_of_another_length() {
     }
 }
 
-#[test]
-fn state_of_another_length() {
-    for state in [
-        &[][..],
-        &[0, 5],
-        &[0, 5, 0],
-        &[0, 5, 0, 2, 0],
-        &[0, 5, 0, 2, 0, 0],
-    ] {
-        run_is(state, &[0, 7], 4, STATE);
-    }
-}
+/// States that `netlist()` does not take: of another length, then with a word that is too wide.
+pub const WRONG_STATES: [&[u8]; 8] = [
+    &[],
+    &[0, 5],
+    &[0, 5, 0],
+    &[0, 5, 0, 2, 0],
+    &[0, 5, 0, 2, 0, 0],
+    &[0, 8, 0, 2],
+    &[0, 5, 0, 4],
+    &[0, 5, 1, 2],
+];
 
 #[test]
-fn state_too_wide() {
-    run_is(&[0, 8, 0, 2], &[0, 7], 4, STATE);
-    run_is(&[0, 5, 0, 4], &[0, 7], 4, STATE);
-    run_is(&[0, 5, 1, 2], &[0, 7], 4, STATE);
+fn state_that_does_not_fit() {
+    for state in WRONG_STATES {
+        run_is(state, &[0, 7], 4, STATE);
+    }
 }
 
 #[test]
