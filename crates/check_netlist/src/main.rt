@@ -1,4 +1,5 @@
 // Reads a netlist file on standard input and writes `accepted 54` (its length) or `refused 12 0` (number, place).
+#![tactic(auto)]
 use checks::check_file;
 use libc::{STDIN_FILENO, STDOUT_FILENO};
 use netlist::Answer;

@@ -1,4 +1,5 @@
 // The reader's layer as run and rewriter see it: checks 1 to 10 and 17, a node by its number, a table's stored words.
+#![tactic(auto)]
 ghost use Rattle.std.specs.Prelude.{◌≡◌, ◌≤◌, length};
 ghost use Rattle.netlist.specs.Net.{in_clock, Net, Sourced};
 ghost use Rattle.netlist.specs.Verdict.{verdict, reader_verdict};
@@ -45,10 +46,10 @@ enum TablePlace {
 
 // Checks 9 and 10; where neither is said, the circuit has an order.
 fn cycles_verdict(file: &[u8], net: &mut [u16]) -> Verdict
-    ghost { Net }
-    requires* { λ N. opened 𝓤 file.now net.old N (Sourced N) }
-    ensures* { λ N r. ⌜ (net_of file.now net.new ≡ N) × Circuit file.now net.new
-        × (r ≡ verdict (from_nine N)) × (r ≡ Verdict.Fine → Complete in_clock N (order_of net.new)) ⌝ }
+    requires circuit { Circuit file.now net.old }
+    requires asked { let N = net_of file.now net.old in Sourced N }
+    ensures { let N = net_of file.now net.old in (net_of file.now net.new ≡ N) × Circuit file.now net.new
+        × (result ≡ verdict (from_nine N)) × (result ≡ Verdict.Fine → Complete in_clock N (order_of net.new)) }
 {
     let n = node_count(file, net);
     let loop_node = lowest_cycle(file, net);
@@ -64,10 +65,9 @@ fn cycles_verdict(file: &[u8], net: &mut [u16]) -> Verdict
 
 // Checks 6 to 10, and 17 among them.
 fn net_verdict(file: &[u8], net: &mut [u16]) -> Verdict
-    ghost { Net }
-    requires* { λ N. ⌜ net_of file.now net.old ≡ N ⌝ ∗ ⌜ Circuit file.now net.old ⌝ }
-    ensures* { λ N r. ⌜ (net_of file.now net.new ≡ N) × Circuit file.now net.new
-        × (r ≡ reader_verdict N) × (r ≡ Verdict.Fine → Complete in_clock N (order_of net.new)) ⌝ }
+    requires circuit { Circuit file.now net.old }
+    ensures { let N = net_of file.now net.old in (net_of file.now net.new ≡ N) × Circuit file.now net.new
+        × (result ≡ reader_verdict N) × (result ≡ Verdict.Fine → Complete in_clock N (order_of net.new)) }
 {
     let n = node_count(file, net);
     let mut marks = [0u8; 1024];

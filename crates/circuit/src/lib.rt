@@ -1,4 +1,5 @@
 // The opened netlist in one slice of words: what it tells of a node and of a table, and how a node is put. Every pass goes by it.
+#![tactic(auto)]
 pub mod renumber;
 mod tables;
 
@@ -131,10 +132,10 @@ pub fn order_of(file: &[u8], net: &[u16], i: usize) -> usize
 
 // Writes place i of the order: the circuit shows the same netlist.
 pub fn put_order(file: &[u8], net: &mut [u16], i: usize, x: u16)
-    ghost { Net }
-    requires* { λ N. ⌜ net_of file.now net.old ≡ N ⌝ ∗ ⌜ Circuit file.now net.old × (i < size N) ⌝ }
-    ensures* { λ N _. ⌜ (net_of file.now net.new ≡ N) × Circuit file.now net.new
-        × (order_of net.new ≡ set (order_of net.old) i x) ⌝ }
+    requires circuit { Circuit file.now net.old }
+    requires asked { let N = net_of file.now net.old in i < size N }
+    ensures { let N = net_of file.now net.old in (net_of file.now net.new ≡ N) × Circuit file.now net.new
+        × (order_of net.new ≡ set (order_of net.old) i x) }
 {
     net[ROWS + ROW * i + TURN] = x;
 }

@@ -1,4 +1,5 @@
 // Checks 9 and 10: the lowest node that reaches itself, searched for only where the nodes cannot all be put in order.
+#![tactic(auto)]
 pub mod rings;
 
 ghost use Rattle.std.specs.Prelude.{◌≡◌, ◌<◌, ◌≤◌, length};
@@ -18,9 +19,9 @@ use proposal::{AREA, propose};
 
 // Whether node u reads the start s or a marked node.
 fn is_touched(file: &[u8], net: &[u16], steps: Steps, s: usize, u: usize, marks: &[u8]) -> bool
-    ghost { Net }
-    requires* { λ N. opened 𝓤 file.now net.now N (u < size N) }
-    ensures* { λ N r. ⌜ r ≡ touches (class_of steps) N s marks.now u ⌝ }
+    requires circuit { Circuit file.now net.now }
+    requires asked { let N = net_of file.now net.now in u < size N }
+    ensures { let N = net_of file.now net.now in result ≡ touches (class_of steps) N s marks.now u }
 {
     let n = count_at(file, net, steps, u);
     let mut p: usize = 0;
@@ -47,9 +48,9 @@ fn touch(
     marks: &mut [u8],
     k: usize,
 ) -> usize
-    ghost { Net }
-    requires* { λ N. opened 𝓤 file.now net.now N (Sourced N × (u < size N) × Reached (class_of steps) N s marks.old k) }
-    ensures* { λ N r. ⌜ ReachedOnce (class_of steps) N s marks.old marks.new k r u ⌝ }
+    requires circuit { Circuit file.now net.now }
+    requires asked { let N = net_of file.now net.now in Sourced N × (u < size N) × Reached (class_of steps) N s marks.old k }
+    ensures { let N = net_of file.now net.now in ReachedOnce (class_of steps) N s marks.old marks.new k result u }
 {
     if 0 < flag_at(marks, u) {
         return k;
@@ -71,9 +72,9 @@ fn touch_if(
     marks: &mut [u8],
     k: usize,
 ) -> usize
-    ghost { Net }
-    requires* { λ N. opened 𝓤 file.now net.now N (Sourced N × Reached (class_of steps) N s marks.old k) }
-    ensures* { λ N r. ⌜ (k ≤ r) × Reached (class_of steps) N s marks.new r ⌝ }
+    requires circuit { Circuit file.now net.now }
+    requires asked { let N = net_of file.now net.now in Sourced N × Reached (class_of steps) N s marks.old k }
+    ensures { let N = net_of file.now net.now in (k ≤ result) × Reached (class_of steps) N s marks.new result }
 {
     if u < node_count(file, net) {
         touch(file, net, steps, s, u, marks, k)
@@ -84,9 +85,9 @@ fn touch_if(
 
 // One round from the start s over all nodes.
 fn spread(file: &[u8], net: &[u16], steps: Steps, s: usize, marks: &mut [u8], start: usize) -> usize
-    ghost { Net }
-    requires* { λ N. opened 𝓤 file.now net.now N (Sourced N × Reached (class_of steps) N s marks.old start) }
-    ensures* { λ N r. ⌜ ReachedPass (class_of steps) N s marks.old marks.new start r (size N) ⌝ }
+    requires circuit { Circuit file.now net.now }
+    requires asked { let N = net_of file.now net.now in Sourced N × Reached (class_of steps) N s marks.old start }
+    ensures { let N = net_of file.now net.now in ReachedPass (class_of steps) N s marks.old marks.new start result (size N) }
 {
     let n = node_count(file, net);
     let mut k = start;
@@ -108,9 +109,9 @@ fn spread_by(
     marks: &mut [u8],
     start: usize,
 ) -> usize
-    ghost { Net }
-    requires* { λ N. opened 𝓤 file.now net.now N (Sourced N × Reached (class_of steps) N s marks.old start × (1024 ≤ length hint.now)) }
-    ensures* { λ N r. ⌜ (start ≤ r) × Reached (class_of steps) N s marks.new r ⌝ }
+    requires circuit { Circuit file.now net.now }
+    requires asked { let N = net_of file.now net.now in Sourced N × Reached (class_of steps) N s marks.old start × (1024 ≤ length hint.now) }
+    ensures { let N = net_of file.now net.now in (start ≤ result) × Reached (class_of steps) N s marks.new result }
 {
     let n = node_count(file, net);
     let mut k = start;
@@ -124,9 +125,9 @@ fn spread_by(
 
 // The search: from each node in turn rounds spread its mark until it comes back, which ends the search, or a round over all nodes changes nothing.
 fn lowest_on_cycle(file: &[u8], net: &[u16], steps: Steps, hint: &[u16]) -> usize
-    ghost { Net }
-    requires* { λ N. opened 𝓤 file.now net.now N (Sourced N × (1024 ≤ length hint.now)) }
-    ensures* { λ N r. ⌜ r ≡ lowest (size N) (reaches_itself (class_of steps) N) ⌝ }
+    requires circuit { Circuit file.now net.now }
+    requires asked { let N = net_of file.now net.now in Sourced N × (1024 ≤ length hint.now) }
+    ensures { let N = net_of file.now net.now in result ≡ lowest (size N) (reaches_itself (class_of steps) N) }
 {
     let n = node_count(file, net);
     let mut s: usize = 0;
@@ -151,10 +152,10 @@ fn lowest_on_cycle(file: &[u8], net: &[u16], steps: Steps, hint: &[u16]) -> usiz
 
 // Check 9: the lowest node that reaches itself within the clock, or the number of nodes: then the circuit's order holds all nodes, each after what it reads.
 pub fn lowest_cycle(file: &[u8], net: &mut [u16]) -> usize
-    ghost { Net }
-    requires* { λ N. opened 𝓤 file.now net.old N (Sourced N) }
-    ensures* { λ N r. ⌜ (net_of file.now net.new ≡ N) × Circuit file.now net.new
-        × (r ≡ lowest (size N) (reaches_itself in_clock N)) × (r ≡ size N → Complete in_clock N (order_of net.new)) ⌝ }
+    requires circuit { Circuit file.now net.old }
+    requires asked { let N = net_of file.now net.old in Sourced N }
+    ensures { let N = net_of file.now net.old in (net_of file.now net.new ≡ N) × Circuit file.now net.new
+        × (result ≡ lowest (size N) (reaches_itself in_clock N)) × (result ≡ size N → Complete in_clock N (order_of net.new)) }
 {
     let placed = order_nodes(file, net);
     if placed == node_count(file, net) {

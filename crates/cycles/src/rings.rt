@@ -3,7 +3,7 @@ ghost use Rattle.std.specs.Prelude.{◌≡◌, true, ◌≤◌, ◌<◌, length,
 ghost use Rattle.lists.specs.Lists.{lowest};
 ghost use Rattle.netlist.specs.Net.{Net, size, in_registers, Sourced, RankedIn};
 ghost use Rattle.netlist.specs.Reach.{reaches_itself};
-ghost use Rattle.circuit.specs.Circuit.{Circuit};
+ghost use Rattle.circuit.specs.Circuit.{Circuit, net_of};
 ghost use Rattle.circuit.specs.Opened.{opened};
 ghost use Rattle.cycles.specs.Falls.{Falls};
 
@@ -113,9 +113,9 @@ fn rank_registers(file: &[u8], net: &[u16], ranks: &mut [u16])
 
 // Whether v is no register, or has a higher rank than what it reads.
 fn falls(file: &[u8], net: &[u16], v: usize, ranks: &[u16]) -> bool
-    ghost { Net }
-    requires* { λ N. opened 𝓤 file.now net.now N (Sourced N × (v < size N) × (length ranks.now ≡ 1024)) }
-    ensures* { λ N r. ⌜ (r ≡ true → Falls N (λ u. get_or ranks.now u 0) v) ⌝ }
+    requires circuit { Circuit file.now net.now }
+    requires asked { let N = net_of file.now net.now in Sourced N × (v < size N) × (length ranks.now ≡ 1024) }
+    ensures { let N = net_of file.now net.now in (result ≡ true → Falls N (λ u. get_or ranks.now u 0) v) }
 {
     if register(file, net, v) == 1 {
         read_at(ranks, source_of(file, net, v, 0)) < read_at(ranks, v)
@@ -126,9 +126,9 @@ fn falls(file: &[u8], net: &[u16], v: usize, ranks: &[u16]) -> bool
 
 // Whether each register has a higher rank than what it reads.
 fn ranked(file: &[u8], net: &[u16], ranks: &[u16]) -> bool
-    ghost { Net }
-    requires* { λ N. opened 𝓤 file.now net.now N (Sourced N × (length ranks.now ≡ 1024)) }
-    ensures* { λ N r. ⌜ (r ≡ true → RankedIn in_registers N (λ v. get_or ranks.now v 0)) ⌝ }
+    requires circuit { Circuit file.now net.now }
+    requires asked { let N = net_of file.now net.now in Sourced N × (length ranks.now ≡ 1024) }
+    ensures { let N = net_of file.now net.now in (result ≡ true → RankedIn in_registers N (λ v. get_or ranks.now v 0)) }
 {
     let n = node_count(file, net);
     let mut v: usize = 0;
@@ -144,9 +144,9 @@ fn ranked(file: &[u8], net: &[u16], ranks: &[u16]) -> bool
 
 // The lowest register on a ring, or the number of nodes.
 pub fn lowest_ring(file: &[u8], net: &[u16]) -> usize
-    ghost { Net }
-    requires* { λ N. opened 𝓤 file.now net.now N (Sourced N) }
-    ensures* { λ N r. ⌜ r ≡ lowest (size N) (reaches_itself in_registers N) ⌝ }
+    requires circuit { Circuit file.now net.now }
+    requires asked { let N = net_of file.now net.now in Sourced N }
+    ensures { let N = net_of file.now net.now in result ≡ lowest (size N) (reaches_itself in_registers N) }
 {
     let mut ranks = [0u16; 1024];
     rank_registers(file, net, &mut ranks);

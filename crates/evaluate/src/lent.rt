@@ -6,6 +6,7 @@ ghost use Rattle.netlist.specs.Checks.{WellFormed};
 ghost use Rattle.circuit.specs.Opened.{opened};
 ghost use Rattle.behaviour.specs.Service.{bytes_of, fitting_bytes};
 ghost use Rattle.evaluate.specs.Rows.{row_test, row_members, row_widths, Loaded};
+ghost use Rattle.circuit.specs.Circuit.{net_of, Circuit};
 
 use super::{Row, code_in_row};
 use areas::read_at;
@@ -14,9 +15,9 @@ use words::{fits_width, put_word, word_at};
 
 // Whether node v has a word in a row.
 pub fn in_row(file: &[u8], net: &[u16], row: Row, v: usize) -> bool
-    ghost { Net }
-    requires* { λ N. opened 𝓤 file.now net.now N (v < size N) }
-    ensures* { λ N r. ⌜ r ≡ row_test row N v ⌝ }
+    requires circuit { Circuit file.now net.now }
+    requires asked { let N = net_of file.now net.now in v < size N }
+    ensures { let N = net_of file.now net.now in result ≡ row_test row N v }
 {
     code_in_row(row, code_of(file, net, v))
 }
@@ -31,9 +32,9 @@ fn one_if(counts: bool) -> usize
 // The nodes that have a word in a row, its members, into a work area; gives how many. Each number is put, and the next one over it unless it counts:
 // the members stand among the others in no pattern, so there is no branch on them.
 pub fn row_members(file: &[u8], net: &[u16], row: Row, members: &mut [u16]) -> usize
-    ghost { Net }
-    requires* { λ N. opened 𝓤 file.now net.now N (1024 ≤ length members.old) }
-    ensures* { λ N r. ⌜ (take r members.new ≡ row_members row N) × (r ≤ length members.new) ⌝ }
+    requires circuit { Circuit file.now net.now }
+    requires asked { 1024 ≤ length members.old }
+    ensures { let N = net_of file.now net.now in (take result members.new ≡ row_members row N) × (result ≤ length members.new) }
 {
     let n = node_count(file, net);
     let mut count: usize = 0;
@@ -55,10 +56,10 @@ pub fn load_row(
     members: &[u16],
     words: &mut [u16],
 ) -> bool
-    ghost { Net }
-    requires* { λ N. opened 𝓤 file.now net.now N (WellFormed N × (size N ≤ length words.old) × (members.now ≡ row_members row N)) }
-    ensures* { λ N r. ⌜ (r ≡ fitting_bytes (row_widths row N) bytes.now)
-        × (r ≡ true → Loaded row N bytes.now words.old words.new) ⌝ }
+    requires circuit { Circuit file.now net.now }
+    requires asked { let N = net_of file.now net.now in WellFormed N × (size N ≤ length words.old) × (members.now ≡ row_members row N) }
+    ensures { let N = net_of file.now net.now in (result ≡ fitting_bytes (row_widths row N) bytes.now)
+        × (result ≡ true → Loaded row N bytes.now words.old words.new) }
 {
     if bytes.len() != 2 * members.len() {
         return false;

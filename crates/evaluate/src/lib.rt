@@ -1,4 +1,5 @@
 // The words of all nodes in one clock: the lent rows of words are loaded, then each node is evaluated after what it reads.
+#![tactic(auto)]
 pub mod lent;
 
 ghost use Rattle.std.specs.Prelude.{◌≡◌, true, false, ◌^◌, ◌<◌, ◌≤◌, length, get_or};
@@ -6,7 +7,7 @@ ghost use Rattle.netlist.specs.declared.Element.{Element};
 ghost use Rattle.netlist.specs.Net.{Net, size, element_at, width_at, source, is_memory, contents_at, in_clock};
 ghost use Rattle.netlist.specs.Checks.{WellFormed};
 ghost use Rattle.circuit.specs.Code.{code_of};
-ghost use Rattle.circuit.specs.Circuit.{order_of};
+ghost use Rattle.circuit.specs.Circuit.{order_of, net_of, Circuit};
 ghost use Rattle.circuit.specs.Opened.{opened};
 ghost use Rattle.circuit.specs.Order.{Complete};
 ghost use Rattle.evaluate.specs.Rows.{in_row, row_test, RowFits};
@@ -42,9 +43,9 @@ fn code_in_row(row: Row, code: usize) -> bool
 
 // The word of node v's table at an address.
 fn memory_word(file: &[u8], net: &[u16], v: usize, address: u16) -> u16
-    ghost { Net }
-    requires* { λ N. opened 𝓤 file.now net.now N (WellFormed N × (v < size N) × (is_memory (element_at N v) ≡ true) × (address < 2 ^ width_at N (source N v 0))) }
-    ensures* { λ N r. ⌜ r ≡ get_or (contents_at N v) address 0 ⌝ }
+    requires circuit { Circuit file.now net.now }
+    requires asked { let N = net_of file.now net.now in WellFormed N × (v < size N) × (is_memory (element_at N v) ≡ true) × (address < 2 ^ width_at N (source N v 0)) }
+    ensures { let N = net_of file.now net.now in result ≡ get_or (contents_at N v) address 0 }
 {
     table_word(file, net, table_of(file, net, v), wide(address))
 }
@@ -62,10 +63,10 @@ fn keeps_word(code: usize) -> bool
 // The word of node v, which was not loaded, from its sources' words.
 // Where an operation has fewer than three sources, what is read for the others does not count.
 fn node_word(file: &[u8], net: &[u16], v: usize, words: &[u16]) -> u16
-    ghost { Net }
-    requires* { λ N. opened 𝓤 file.now net.now N (WellFormed N × Inside N × (v < size N) × (size N ≤ length words.now)
-        × OperandsFit N words.now v × (loaded (element_at N v) ≡ false)) }
-    ensures* { λ N r. ⌜ r ≡ node_word N words.now v ⌝ }
+    requires circuit { Circuit file.now net.now }
+    requires asked { let N = net_of file.now net.now in WellFormed N × Inside N × (v < size N) × (size N ≤ length words.now)
+        × OperandsFit N words.now v × (loaded (element_at N v) ≡ false) }
+    ensures { let N = net_of file.now net.now in result ≡ node_word N words.now v }
 {
     // Whatever a gate may ask for is read first and on no condition, so that it does not wait for the jump by the code.
     let one = source_of(file, net, v, 0);
@@ -92,10 +93,10 @@ fn node_word(file: &[u8], net: &[u16], v: usize, words: &[u16]) -> u16
 
 // Evaluates all nodes of a clock in the circuit's order, in which each comes after what it reads. What was loaded stays.
 pub fn evaluate(file: &[u8], net: &[u16], words: &mut [u16])
-    ghost { Net }
-    requires* { λ N. opened 𝓤 file.now net.now N (WellFormed N × Inside N × Complete in_clock N (order_of net.now) × (size N ≤ length words.old)
-        × RowFits Row.Inputs N words.old × RowFits Row.State N words.old) }
-    ensures* { λ N _. ⌜ Evaluated N words.old words.new ⌝ }
+    requires circuit { Circuit file.now net.now }
+    requires asked { let N = net_of file.now net.now in WellFormed N × Inside N × Complete in_clock N (order_of net.now) × (size N ≤ length words.old)
+        × RowFits Row.Inputs N words.old × RowFits Row.State N words.old }
+    ensures { let N = net_of file.now net.now in Evaluated N words.old words.new }
 {
     let n = node_count(file, net);
     let mut i: usize = 0;
@@ -110,9 +111,9 @@ pub fn evaluate(file: &[u8], net: &[u16], words: &mut [u16])
 
 // The word that a register or a clocked ROM holds after the clock: its source's, or the table's word at its source's.
 pub fn next_word(file: &[u8], net: &[u16], v: usize, words: &[u16]) -> u16
-    ghost { Net }
-    requires* { λ N. opened 𝓤 file.now net.now N (WellFormed N × (v < size N) × (row_test Row.State N v ≡ true) × WordsFit N words.now) }
-    ensures* { λ N r. ⌜ r ≡ next_word N words.now v ⌝ }
+    requires circuit { Circuit file.now net.now }
+    requires asked { let N = net_of file.now net.now in WellFormed N × (v < size N) × (row_test Row.State N v ≡ true) × WordsFit N words.now }
+    ensures { let N = net_of file.now net.now in result ≡ next_word N words.now v }
 {
     let word = number_at(words, source_of(file, net, v, 0));
     if code_of(file, net, v) == 2 {

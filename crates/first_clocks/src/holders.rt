@@ -6,6 +6,7 @@ ghost use Rattle.circuit.specs.Opened.{opened};
 ghost use Rattle.retiming.specs.Rewrite.{passed};
 ghost use Rattle.wires.specs.Traced.{roots_in, passes_in, AllTraced};
 ghost use Rattle.first_clocks.specs.Holders.{Holder, Remembered};
+ghost use Rattle.circuit.specs.Circuit.{net_of, Circuit};
 
 use areas::read_at;
 use circuit::{source_of, wide};
@@ -38,9 +39,9 @@ fn nearest(last: Held, v: usize, far: u16) -> Held
 
 // Walks on to the holder that is so many registers back.
 fn walk_back(file: &[u8], net: &[u16], from: Held, far: u16) -> Held
-    ghost { Net }
-    requires* { λ N. opened 𝓤 file.now net.now N (WellFormed N × Holder N from.node from.back from.holder × (from.back ≤ far) × (far ≤ passed N from.node)) }
-    ensures* { λ N r. ⌜ Holder N from.node far r.holder × (r.node ≡ from.node) × (r.back ≡ far) ⌝ }
+    requires circuit { Circuit file.now net.now }
+    requires asked { let N = net_of file.now net.now in WellFormed N × Holder N from.node from.back from.holder × (from.back ≤ far) × (far ≤ passed N from.node) }
+    ensures { let N = net_of file.now net.now in Holder N from.node far result.holder × (result.node ≡ from.node) × (result.back ≡ far) }
 {
     let node = from.node;
     let mut holder = from.holder;
@@ -54,10 +55,10 @@ fn walk_back(file: &[u8], net: &[u16], from: Held, far: u16) -> Held
 
 // The holder of the word that v has at a clock: the root of its wire, or a register as many back as there are clocks.
 pub fn holder_at(file: &[u8], net: &[u16], timing: &[u16], v: usize, clock: u16, last: Held) -> Held
-    ghost { Net }
-    requires* { λ N. opened 𝓤 file.now net.now N (WellFormed N × AllTraced N (roots_in timing.now) (passes_in timing.now) × (length timing.now ≡ 3072)
-        × (v < size N) × Remembered N last.node last.back last.holder) }
-    ensures* { λ N r. ⌜ Holder N v r.back r.holder × (r.node ≡ v) × (r.back ≤ clock) ⌝ }
+    requires circuit { Circuit file.now net.now }
+    requires asked { let N = net_of file.now net.now in WellFormed N × AllTraced N (roots_in timing.now) (passes_in timing.now) × (length timing.now ≡ 3072)
+        × (v < size N) × Remembered N last.node last.back last.holder }
+    ensures { let N = net_of file.now net.now in Holder N v result.back result.holder × (result.node ≡ v) × (result.back ≤ clock) }
 {
     let through = read_at(timing, PASSES + v);
     if through <= clock {

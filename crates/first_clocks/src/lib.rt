@@ -1,11 +1,12 @@
 // The first words of a netlist: it is run from reset, with all inputs 0, and the words that are wanted are taken clock by clock.
+#![tactic(auto)]
 mod holders;
 mod queue;
 
 ghost use Rattle.std.specs.Prelude.{◌≡◌, true, List, ℕ, ◌+◌, ◌<◌, ◌≤◌, length, get_or};
 ghost use Rattle.netlist.specs.Net.{Net, size, in_clock};
 ghost use Rattle.netlist.specs.Checks.{WellFormed};
-ghost use Rattle.circuit.specs.Circuit.{order_of};
+ghost use Rattle.circuit.specs.Circuit.{order_of, net_of, Circuit};
 ghost use Rattle.circuit.specs.Opened.{opened};
 ghost use Rattle.circuit.specs.Order.{Complete};
 ghost use Rattle.evaluate.specs.Clock.{Inside};
@@ -30,9 +31,9 @@ pub const QUEUE: usize = 7168;
 
 // The word with which node v begins the first clock: its reset word.
 fn first_word(file: &[u8], net: &[u16], v: usize) -> u16
-    ghost { Net }
-    requires* { λ N. opened 𝓤 file.now net.now N (WellFormed N × (v < size N)) }
-    ensures* { λ N r. ⌜ Begins N 0 v r ⌝ }
+    requires circuit { Circuit file.now net.now }
+    requires asked { let N = net_of file.now net.now in WellFormed N × (v < size N) }
+    ensures { let N = net_of file.now net.now in Begins N 0 v result }
 {
     let holds = in_row(file, net, Row::State, v);
     if holds {
@@ -44,9 +45,9 @@ fn first_word(file: &[u8], net: &[u16], v: usize) -> u16
 
 // Loads the words after reset.
 fn load_reset(file: &[u8], net: &[u16], words: &mut [u16])
-    ghost { Net }
-    requires* { λ N. opened 𝓤 file.now net.now N (WellFormed N × (size N ≤ length words.old)) }
-    ensures* { λ N _. ⌜ Loads N 0 words.new ⌝ }
+    requires circuit { Circuit file.now net.now }
+    requires asked { let N = net_of file.now net.now in WellFormed N × (size N ≤ length words.old) }
+    ensures { let N = net_of file.now net.now in Loads N 0 words.new }
 {
     let n = node_count(file, net);
     let mut v: usize = 0;
@@ -58,9 +59,9 @@ fn load_reset(file: &[u8], net: &[u16], words: &mut [u16])
 
 // The words of the first clock.
 pub fn first_clock(file: &[u8], net: &[u16], words: &mut [u16])
-    ghost { Net }
-    requires* { λ N. opened 𝓤 file.now net.now N (WellFormed N × Inside N × Complete in_clock N (order_of net.now) × (size N ≤ length words.old)) }
-    ensures* { λ N _. ⌜ WordsAt N 0 words.new ⌝ }
+    requires circuit { Circuit file.now net.now }
+    requires asked { let N = net_of file.now net.now in WellFormed N × Inside N × Complete in_clock N (order_of net.now) × (size N ≤ length words.old) }
+    ensures { let N = net_of file.now net.now in WordsAt N 0 words.new }
 {
     load_reset(file, net, words);
     evaluate(file, net, words);
@@ -70,9 +71,9 @@ pub fn first_clock(file: &[u8], net: &[u16], words: &mut [u16])
 
 // The words that registers and clocked ROMs hold after the clock, by node number.
 fn hold_next(file: &[u8], net: &[u16], members: &[u16], words: &[u16], next: &mut [u16])
-    ghost { Net }
-    requires* { λ N. opened 𝓤 file.now net.now N (WellFormed N × (members.now ≡ row_members Row.State N) × WordsFit N words.now × (size N ≤ length next.old)) }
-    ensures* { λ N _. ⌜ ((v : ℕ) → v < size N → row_test Row.State N v ≡ true → get_or next.new v 0 ≡ next_word N words.now v) ⌝ }
+    requires circuit { Circuit file.now net.now }
+    requires asked { let N = net_of file.now net.now in WellFormed N × (members.now ≡ row_members Row.State N) × WordsFit N words.now × (size N ≤ length next.old) }
+    ensures { let N = net_of file.now net.now in ((v : ℕ) → v < size N → row_test Row.State N v ≡ true → get_or next.new v 0 ≡ next_word N words.now v) }
 {
     let mut i: usize = 0;
     while i < members.len() {
@@ -96,10 +97,10 @@ fn store_next(members: &[u16], next: &[u16], words: &mut [u16])
 
 // The words of the next clock, over those of this one. Input ports keep their 0.
 fn next_clock(file: &[u8], net: &[u16], members: &[u16], words: &mut [u16])
-    ghost { Net }
-    requires* { λ N. opened 𝓤 file.now net.now N (WellFormed N × Inside N × Complete in_clock N (order_of net.now) × (members.now ≡ row_members Row.State N)
-        × (length words.old ≡ 1024) × OfClock N words.old) }
-    ensures* { λ N _. ⌜ ((t : ℕ) → WordsAt N t words.old → WordsAt N (t + 1) words.new) ⌝ }
+    requires circuit { Circuit file.now net.now }
+    requires asked { let N = net_of file.now net.now in WellFormed N × Inside N × Complete in_clock N (order_of net.now) × (members.now ≡ row_members Row.State N)
+        × (length words.old ≡ 1024) × OfClock N words.old }
+    ensures { let N = net_of file.now net.now in ((t : ℕ) → WordsAt N t words.old → WordsAt N (t + 1) words.new) }
 {
     let mut next = [0u16; 1024];
     hold_next(file, net, members, words, &mut next);
@@ -127,11 +128,11 @@ fn name_holders(
     queue: &mut [u16],
     found: &mut [u16],
 ) -> usize
-    ghost { Net }
-    requires* { λ N. opened 𝓤 file.now net.now N (WellFormed N × AllTraced N (roots_in timing.now) (passes_in timing.now) × (length timing.now ≡ 3072)
-        × OfNodes N clocks.now wanted.now × (length clocks.now ≤ 3072) × (length clocks.now ≤ length found.old) × (length queue.old ≡ 7168)) }
-    ensures* { λ N r. ⌜ NamedFrom N clocks.now wanted.now found.old (dues_in queue.new) found.new r 0
-        × Queued queue.new 0 × (r ≤ 65535) ⌝ }
+    requires circuit { Circuit file.now net.now }
+    requires asked { let N = net_of file.now net.now in WellFormed N × AllTraced N (roots_in timing.now) (passes_in timing.now) × (length timing.now ≡ 3072)
+        × OfNodes N clocks.now wanted.now × (length clocks.now ≤ 3072) × (length clocks.now ≤ length found.old) × (length queue.old ≡ 7168) }
+    ensures { let N = net_of file.now net.now in NamedFrom N clocks.now wanted.now found.old (dues_in queue.new) found.new result 0
+        × Queued queue.new 0 × (result ≤ 65535) }
 {
     fill(queue, 65535);
     let mut limit: usize = 0;
@@ -166,11 +167,11 @@ fn take_later(
     limit: usize,
     found: &mut [u16],
 )
-    ghost { Net }
-    requires* { λ N. opened 𝓤 file.now net.now N (WellFormed N × Inside N × Complete in_clock N (order_of net.now) × WordsAt N 0 start.now × (length start.now ≡ 1024)
-        × (length queue.now ≡ 7168) × Queued queue.now 0 × QueuedWithin queue.now (length found.old) × (1 ≤ limit) × (limit ≤ 65535)) }
-    ensures* { λ N _. ⌜ ((clocks wanted before : List ℕ) → length clocks ≤ 3072 → Asked clocks (dues_in queue.now)
-        → TakenBefore N clocks wanted (dues_in queue.now) before found.old 1 → TakenBefore N clocks wanted (dues_in queue.now) before found.new limit) ⌝ }
+    requires circuit { Circuit file.now net.now }
+    requires asked { let N = net_of file.now net.now in WellFormed N × Inside N × Complete in_clock N (order_of net.now) × WordsAt N 0 start.now × (length start.now ≡ 1024)
+        × (length queue.now ≡ 7168) × Queued queue.now 0 × QueuedWithin queue.now (length found.old) × (1 ≤ limit) × (limit ≤ 65535) }
+    ensures { let N = net_of file.now net.now in ((clocks wanted before : List ℕ) → length clocks ≤ 3072 → Asked clocks (dues_in queue.now)
+        → TakenBefore N clocks wanted (dues_in queue.now) before found.old 1 → TakenBefore N clocks wanted (dues_in queue.now) before found.new limit) }
 {
     let mut members = [0u16; 1024];
     let count = row_members(file, net, Row::State, &mut members);
@@ -196,11 +197,11 @@ pub fn first_words(
     queue: &mut [u16],
     found: &mut [u16],
 )
-    ghost { Net }
-    requires* { λ N. opened 𝓤 file.now net.now N (WellFormed N × Inside N × Complete in_clock N (order_of net.now) × AllTraced N (roots_in timing.now) (passes_in timing.now)
+    requires circuit { Circuit file.now net.now }
+    requires asked { let N = net_of file.now net.now in WellFormed N × Inside N × Complete in_clock N (order_of net.now) × AllTraced N (roots_in timing.now) (passes_in timing.now)
         × (length timing.now ≡ 3072) × OfNodes N clocks.now wanted.now × (length clocks.now ≤ 3072) × (length clocks.now ≤ length found.old)
-        × WordsAt N 0 start.now × (length start.now ≡ 1024) × (length queue.old ≡ 7168)) }
-    ensures* { λ N _. ⌜ Taken N clocks.now wanted.now found.old found.new ⌝ }
+        × WordsAt N 0 start.now × (length start.now ≡ 1024) × (length queue.old ≡ 7168) }
+    ensures { let N = net_of file.now net.now in Taken N clocks.now wanted.now found.old found.new }
 {
     let limit = name_holders(file, net, timing, clocks, wanted, queue, found);
     take_due(queue, 0, start, found);

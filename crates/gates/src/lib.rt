@@ -1,4 +1,5 @@
 // The word of a gate, computed. 2 ^ w is the shift 1 << w, and a remainder by it is a mask in machine code.
+#![tactic(auto)]
 ghost use Rattle.std.specs.Prelude.{◌≡◌, ◌+◌, ◌-◌, ◌*◌, ◌/◌, ◌%◌, ◌^◌, ◌≤◌, ◌<◌};
 ghost use Rattle.gates.specs.Gate.{gate_word};
 

@@ -7,6 +7,7 @@ ghost use Rattle.plan.specs.Areas.{owners_in, late_in, sources_in};
 ghost use Rattle.layout.specs.Planned.{Planned};
 ghost use Rattle.layout.specs.PlannedNode.{new_node, shown_node};
 ghost use Rattle.layout.specs.NewRow.{RowOf};
+ghost use Rattle.circuit.specs.Circuit.{net_of, Circuit};
 
 use super::read_by;
 use super::rows::{choose_row, constant_row, register_row};
@@ -18,9 +19,9 @@ use wires::NEVER;
 
 // A constant of a wire, or its gate, which has no clock. Each is as wide as its owner.
 fn shown_row(file: &[u8], net: &[u16], plan: &[u16], words: &[u16], i: usize) -> Row
-    ghost { Net }
-    requires* { λ N. opened 𝓤 file.now net.now N ((i < 1024) × (get_or (owners_in plan.now) i 0 < size N) × (length plan.now ≡ 7168) × (length words.now ≡ 1024)) }
-    ensures* { λ N r. ⌜ RowOf r (shown_node N (owners_in plan.now) words.now (late_in plan.now) (sources_in plan.now) i) ⌝ }
+    requires circuit { Circuit file.now net.now }
+    requires asked { let N = net_of file.now net.now in (i < 1024) × (get_or (owners_in plan.now) i 0 < size N) × (length plan.now ≡ 7168) × (length words.now ≡ 1024) }
+    ensures { let N = net_of file.now net.now in RowOf result (shown_node N (owners_in plan.now) words.now (late_in plan.now) (sources_in plan.now) i) }
 {
     let width = width_of(file, net, wide(read_at(plan, i))) as u16;
     if read_at(plan, LATE + i) < NEVER {
@@ -41,10 +42,10 @@ pub fn gate_row(
     words: &[u16],
     i: usize,
 ) -> Row
-    ghost { Net }
-    requires* { λ N. opened 𝓤 file.now net.now N (Planned N (mode_timing made.mode N) (owners_in plan.now) words.now (late_in plan.now) (sources_in plan.now)
-        made.entries made.wired made.chain made.total × (made.total ≤ 1024) × (made.wired ≤ i) × (i < made.total) × (length plan.now ≡ 7168) × (length words.now ≡ 1024)) }
-    ensures* { λ N r. ⌜ RowOf r (new_node N (mode_timing made.mode N) i) ⌝ }
+    requires circuit { Circuit file.now net.now }
+    requires asked { let N = net_of file.now net.now in Planned N (mode_timing made.mode N) (owners_in plan.now) words.now (late_in plan.now) (sources_in plan.now)
+        made.entries made.wired made.chain made.total × (made.total ≤ 1024) × (made.wired ≤ i) × (i < made.total) × (length plan.now ≡ 7168) × (length words.now ≡ 1024) }
+    ensures { let N = net_of file.now net.now in RowOf result (new_node N (mode_timing made.mode N) i) }
 {
     let behind = i - made.wired;
     if behind == 0 {

@@ -1,4 +1,5 @@
 // The planned netlist as a circuit: the tables as they came, and each node as it is planned.
+#![tactic(auto)]
 mod added;
 pub mod reset;
 mod rows;
@@ -44,10 +45,10 @@ fn planned_row(
     words: &[u16],
     i: usize,
 ) -> Row
-    ghost { Net }
-    requires* { λ N. opened 𝓤 file.now net.now N (Planned N (mode_timing made.mode N) (owners_in plan.now) words.now (late_in plan.now) (sources_in plan.now)
-        made.entries made.wired made.chain made.total × (made.total ≤ 1024) × (i < made.total) × (length plan.now ≡ 7168) × (length words.now ≡ 1024)) }
-    ensures* { λ N r. ⌜ RowOf r (new_node N (mode_timing made.mode N) i) ⌝ }
+    requires circuit { Circuit file.now net.now }
+    requires asked { let N = net_of file.now net.now in Planned N (mode_timing made.mode N) (owners_in plan.now) words.now (late_in plan.now) (sources_in plan.now)
+        made.entries made.wired made.chain made.total × (made.total ≤ 1024) × (i < made.total) × (length plan.now ≡ 7168) × (length words.now ≡ 1024) }
+    ensures { let N = net_of file.now net.now in RowOf result (new_node N (mode_timing made.mode N) i) }
 {
     let owner = wide(read_at(plan, i));
     let word = read_at(words, i);
@@ -74,10 +75,10 @@ pub fn lay_circuit(
     words: &[u16],
     new: &mut [u16],
 )
-    ghost { Net }
-    requires* { λ N. opened 𝓤 file.now net.now N (Planned N (mode_timing made.mode N) (owners_in plan.now) words.now (late_in plan.now) (sources_in plan.now)
-        made.entries made.wired made.chain made.total × (made.total ≤ 1024) × (length plan.now ≡ 7168) × (length words.now ≡ 1024) × (circuit_words ≤ length new.old)) }
-    ensures* { λ N _. ⌜ (net_of file.now new.new ≡ gated_with N (mode_timing made.mode N) (zero_word N)) × Circuit file.now new.new ⌝ }
+    requires circuit { Circuit file.now net.now }
+    requires asked { let N = net_of file.now net.now in Planned N (mode_timing made.mode N) (owners_in plan.now) words.now (late_in plan.now) (sources_in plan.now)
+        made.entries made.wired made.chain made.total × (made.total ≤ 1024) × (length plan.now ≡ 7168) × (length words.now ≡ 1024) × (circuit_words ≤ length new.old) }
+    ensures { let N = net_of file.now net.now in (net_of file.now new.new ≡ gated_with N (mode_timing made.mode N) (zero_word N)) × Circuit file.now new.new }
 {
     copy_head(file, net, new);
     let total = made.total;

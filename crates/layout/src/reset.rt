@@ -1,7 +1,7 @@
 // The reset words of the planned nodes: those that ROMs take over are in the plan, those of the registers and the constants of the gates are found.
 ghost use Rattle.std.specs.Prelude.{◌≡◌, ◌≤◌, length};
 ghost use Rattle.netlist.specs.Net.{Net, in_clock};
-ghost use Rattle.circuit.specs.Circuit.{order_of};
+ghost use Rattle.circuit.specs.Circuit.{order_of, net_of, Circuit};
 ghost use Rattle.circuit.specs.Opened.{opened};
 ghost use Rattle.circuit.specs.Order.{Complete};
 ghost use Rattle.evaluate.specs.Clock.{Inside};
@@ -38,12 +38,12 @@ pub fn reset_words(
     queue: &mut [u16],
     words: &mut [u16],
 )
-    ghost { Net }
-    requires* { λ N. opened 𝓤 file.now net.now N (Timed N (mode_timing made.mode N) timing.now × (length timing.now ≡ 3072) × Inside N × Complete in_clock N (order_of net.now)
+    requires circuit { Circuit file.now net.now }
+    requires asked { let N = net_of file.now net.now in Timed N (mode_timing made.mode N) timing.now × (length timing.now ≡ 3072) × Inside N × Complete in_clock N (order_of net.now)
         × WordsAt N 0 start.now × (length start.now ≡ 1024) × (length plan.now ≡ 7168) × (length queue.old ≡ 7168) × (length words.old ≡ 1024)
-        × Steering N (mode_timing made.mode N) plan.now made.entries made.wired made.chain made.total × (made.total ≤ 1024)) }
-    ensures* { λ N _. ⌜ Planned N (mode_timing made.mode N) (owners_in plan.now) words.new (late_in plan.now) (sources_in plan.now)
-        made.entries made.wired made.chain made.total ⌝ }
+        × Steering N (mode_timing made.mode N) plan.now made.entries made.wired made.chain made.total × (made.total ≤ 1024) }
+    ensures { let N = net_of file.now net.now in Planned N (mode_timing made.mode N) (owners_in plan.now) words.new (late_in plan.now) (sources_in plan.now)
+        made.entries made.wired made.chain made.total }
 {
     entry_words(plan, made.entries, words);
     first_words(

@@ -3,6 +3,7 @@ ghost use Rattle.std.specs.Prelude.{◌≡◌, cond, ◌<◌, eqb};
 ghost use Rattle.netlist.specs.Net.{Net, size};
 ghost use Rattle.circuit.specs.Opened.{opened};
 ghost use Rattle.layout.specs.NewRow.{entry_node, register_node, constant_node, choose_node, RowOf};
+ghost use Rattle.circuit.specs.Circuit.{net_of, Circuit};
 
 use circuit::{Row, async_rom, clocked_rom, code_of, number_of, source_count, table_of, width_of};
 
@@ -15,9 +16,9 @@ fn held(memory: usize, word: u16, number: u16) -> u16
 
 // Old node u, where a ROM is clocked. Kinds follow no pattern, so there is no branch on them.
 pub fn entry_row(file: &[u8], net: &[u16], u: usize, word: u16, sources: [u16; 3]) -> Row
-    ghost { Net }
-    requires* { λ N. opened 𝓤 file.now net.now N (u < size N) }
-    ensures* { λ N r. ⌜ RowOf r (entry_node N u word sources) ⌝ }
+    requires circuit { Circuit file.now net.now }
+    requires asked { let N = net_of file.now net.now in u < size N }
+    ensures { let N = net_of file.now net.now in RowOf result (entry_node N u word sources) }
 {
     let rom = async_rom(file, net, u);
     let memory = rom + clocked_rom(file, net, u);

@@ -6,6 +6,7 @@ ghost use Rattle.retiming.specs.Leads.{closed_debt};
 ghost use Rattle.retiming.specs.Rewrite.{timing};
 ghost use Rattle.retiming.specs.Preview.{largest_lead_of};
 ghost use Rattle.leads.specs.Settled.{LeadsIn};
+ghost use Rattle.circuit.specs.Circuit.{net_of, Circuit};
 
 use areas::number_at;
 use circuit::node_count;
@@ -18,9 +19,9 @@ fn larger(a: u16, b: u16) -> u16
 
 // The numbers of the registers are looked at too: none is larger than that of some other node.
 pub fn largest_lead(file: &[u8], net: &[u16], leads: &[u16]) -> u16
-    ghost { Net }
-    requires* { λ N. opened 𝓤 file.now net.now N (Sourced N × (closed_debt N ≡ false) × LeadsIn N (timing N) leads.now) }
-    ensures* { λ N r. ⌜ r ≡ largest_lead_of N ⌝ }
+    requires circuit { Circuit file.now net.now }
+    requires asked { let N = net_of file.now net.now in Sourced N × (closed_debt N ≡ false) × LeadsIn N (timing N) leads.now }
+    ensures { let N = net_of file.now net.now in result ≡ largest_lead_of N }
 {
     let n = node_count(file, net);
     let mut most: u16 = 0;

@@ -1,5 +1,6 @@
 // The leads of an opened netlist, and with them the checks 11 and 12, in either mode. Numbers, counted from an origin, are raised until no reader asks more of what it
 // reads. 0 says that no walk counts.
+#![tactic(auto)]
 pub mod largest;
 mod modes;
 mod worklist;
@@ -46,9 +47,9 @@ fn raise(leads: &mut [u16], u: usize, due: usize, taken: usize) -> usize
 // Raises the numbers of what x reads as far as x asks, and gives how many it raised. Where no walk counts nothing is asked, and a number over the bound shows a closed
 // debt, and asks for no more.
 fn relax(file: &[u8], net: &[u16], bound: usize, x: usize, leads: &mut [u16]) -> usize
-    ghost { Net }
-    requires* { λ N. opened 𝓤 file.now net.now N (Sourced N × (bound < 65535) × (x < size N) × (size N ≤ length leads.old)) }
-    ensures* { λ N r. ⌜ (r ≤ 3) × Progress N bound leads.old leads.new r (Content N bound x) ⌝ }
+    requires circuit { Circuit file.now net.now }
+    requires asked { let N = net_of file.now net.now in Sourced N × (bound < 65535) × (x < size N) × (size N ≤ length leads.old) }
+    ensures { let N = net_of file.now net.now in (result ≤ 3) × Progress N bound leads.old leads.new result (Content N bound x) }
 {
     let own = wide(read_at(leads, x));
     if own == 0 {
@@ -73,9 +74,9 @@ fn relax(file: &[u8], net: &[u16], bound: usize, x: usize, leads: &mut [u16]) ->
 
 // One pass over all readers; gives how many numbers it raised.
 fn pass(file: &[u8], net: &[u16], bound: usize, leads: &mut [u16]) -> usize
-    ghost { Net }
-    requires* { λ N. opened 𝓤 file.now net.now N (Sourced N × (bound < 65535) × (size N ≤ length leads.old)) }
-    ensures* { λ N r. ⌜ Progress N bound leads.old leads.new r (Quiet N bound (size N)) ⌝ }
+    requires circuit { Circuit file.now net.now }
+    requires asked { let N = net_of file.now net.now in Sourced N × (bound < 65535) × (size N ≤ length leads.old) }
+    ensures { let N = net_of file.now net.now in Progress N bound leads.old leads.new result (Quiet N bound (size N)) }
 {
     let n = node_count(file, net);
     let mut raised: usize = 0;
@@ -104,9 +105,9 @@ fn over_bound(leads: &[u16], n: usize, bound: usize) -> bool
 
 // Whether the numbers settle; if not, there is a closed debt.
 fn settle(file: &[u8], net: &[u16], bound: usize, leads: &mut [u16]) -> bool
-    ghost { Net }
-    requires* { λ N. opened 𝓤 file.now net.now N (Sourced N × (bound ≡ origin N + rom_count N) × (size N ≤ length leads.old)) }
-    ensures* { λ N r. ⌜ ((ends : ℕ → Bool) → Walked N ends leads.old → Outcome N ends leads.new r) ⌝ }
+    requires circuit { Circuit file.now net.now }
+    requires asked { let N = net_of file.now net.now in Sourced N × (bound ≡ origin N + rom_count N) × (size N ≤ length leads.old) }
+    ensures { let N = net_of file.now net.now in ((ends : ℕ → Bool) → Walked N ends leads.old → Outcome N ends leads.new result) }
 {
     let n = node_count(file, net);
     loop {
@@ -121,9 +122,9 @@ fn settle(file: &[u8], net: &[u16], bound: usize, leads: &mut [u16]) -> bool
 
 // Finds the leads, counted from the origin, which is `base`, or a closed debt.
 fn search_leads(file: &[u8], net: &[u16], mode: Mode, base: u16, leads: &mut [u16]) -> bool
-    ghost { Net }
-    requires* { λ N. opened 𝓤 file.now net.now N (Sourced N × (base ≡ origin N) × (size N ≤ length leads.old)) }
-    ensures* { λ N r. ⌜ Outcome N (mode_ends mode N) leads.new r ⌝ }
+    requires circuit { Circuit file.now net.now }
+    requires asked { let N = net_of file.now net.now in Sourced N × (base ≡ origin N) × (size N ≤ length leads.old) }
+    ensures { let N = net_of file.now net.now in Outcome N (mode_ends mode N) leads.new result }
 {
     let bound = wide(base) + count_roms(file, net);
     begin(file, net, mode, base, leads);
@@ -135,9 +136,9 @@ fn search_leads(file: &[u8], net: &[u16], mode: Mode, base: u16, leads: &mut [u1
 
 // Whether v is an input port with a positive lead: its number is above the origin.
 fn owes(file: &[u8], net: &[u16], base: u16, leads: &[u16], v: usize) -> bool
-    ghost { Net }
-    requires* { λ N. opened 𝓤 file.now net.now N ((v < size N) × (size N ≤ length leads.now)) }
-    ensures* { λ N r. ⌜ r ≡ owing_by N base leads.now v ⌝ }
+    requires circuit { Circuit file.now net.now }
+    requires asked { let N = net_of file.now net.now in (v < size N) × (size N ≤ length leads.now) }
+    ensures { let N = net_of file.now net.now in result ≡ owing_by N base leads.now v }
 {
     if input(file, net, v) == 1 {
         base < read_at(leads, v)
@@ -148,9 +149,9 @@ fn owes(file: &[u8], net: &[u16], base: u16, leads: &[u16], v: usize) -> bool
 
 // The lowest input port with a positive lead, or the number of nodes.
 fn lowest_owing(file: &[u8], net: &[u16], base: u16, leads: &[u16]) -> usize
-    ghost { Net }
-    requires* { λ N. opened 𝓤 file.now net.now N (size N ≤ length leads.now) }
-    ensures* { λ N r. ⌜ r ≡ lowest (size N) (owing_by N base leads.now) ⌝ }
+    requires circuit { Circuit file.now net.now }
+    requires asked { let N = net_of file.now net.now in size N ≤ length leads.now }
+    ensures { let N = net_of file.now net.now in result ≡ lowest (size N) (owing_by N base leads.now) }
 {
     let n = node_count(file, net);
     let mut v: usize = 0;
@@ -166,9 +167,9 @@ fn lowest_owing(file: &[u8], net: &[u16], base: u16, leads: &[u16]) -> usize
 // Finds the leads of a netlist, or says 11 or 12; nothing is then said of the numbers left in the work area.
 // The circuit's order is a hint, best an evaluation order of the nodes: it saves time, and any numbers will do.
 pub fn find_leads(file: &[u8], net: &[u16], mode: Mode, leads: &mut [u16]) -> Verdict
-    ghost { Net }
-    requires* { λ N. opened 𝓤 file.now net.now N (Sourced N × (1024 ≤ length leads.old)) }
-    ensures* { λ N r. ⌜ (r ≡ debts_verdict mode N) × (r ≡ Verdict.Fine → LeadsIn N (mode_timing mode N) leads.new) ⌝ }
+    requires circuit { Circuit file.now net.now }
+    requires asked { let N = net_of file.now net.now in Sourced N × (1024 ≤ length leads.old) }
+    ensures { let N = net_of file.now net.now in (result ≡ debts_verdict mode N) × (result ≡ Verdict.Fine → LeadsIn N (mode_timing mode N) leads.new) }
 {
     let n = node_count(file, net);
     // The origin: no walk without repetition loses so much.

@@ -6,6 +6,7 @@ ghost use Rattle.retiming.specs.LateLeads.{origin, lead_to};
 ghost use Rattle.retiming.specs.Modes.{mode_ends, mode_closed, mode_timing};
 ghost use Rattle.leads.specs.Progress.{Walked};
 ghost use Rattle.leads.specs.Settled.{LeadsIn, Found};
+ghost use Rattle.circuit.specs.Circuit.{net_of, Circuit};
 
 use areas::{read_at, write_at};
 use circuit::{input, node_count, output};
@@ -13,9 +14,9 @@ use retiming::Mode;
 
 // Whether a walk that counts may end at node v.
 fn may_end(file: &[u8], net: &[u16], mode: Mode, v: usize) -> bool
-    ghost { Net }
-    requires* { λ N. opened 𝓤 file.now net.now N (v < size N) }
-    ensures* { λ N r. ⌜ r ≡ mode_ends mode N v ⌝ }
+    requires circuit { Circuit file.now net.now }
+    requires asked { let N = net_of file.now net.now in v < size N }
+    ensures { let N = net_of file.now net.now in result ≡ mode_ends mode N v }
 {
     match mode {
         Mode::Plain => true,
@@ -32,9 +33,9 @@ fn number_if(counts: bool, number: u16) -> u16
 
 // The empty walks: the origin, which is `base`, where a walk may end, and 0 elsewhere.
 pub fn begin(file: &[u8], net: &[u16], mode: Mode, base: u16, leads: &mut [u16])
-    ghost { Net }
-    requires* { λ N. opened 𝓤 file.now net.now N ((base ≡ origin N) × (size N ≤ length leads.old)) }
-    ensures* { λ N _. ⌜ Walked N (mode_ends mode N) leads.new ⌝ }
+    requires circuit { Circuit file.now net.now }
+    requires asked { let N = net_of file.now net.now in (base ≡ origin N) × (size N ≤ length leads.old) }
+    ensures { let N = net_of file.now net.now in Walked N (mode_ends mode N) leads.new }
 {
     let n = node_count(file, net);
     let mut v: usize = 0;
@@ -46,9 +47,9 @@ pub fn begin(file: &[u8], net: &[u16], mode: Mode, base: u16, leads: &mut [u16])
 
 // The lead of node v in the mode's timing: document 01 counts from 0, and with a late start an input port is at the origin.
 fn timed(file: &[u8], net: &[u16], mode: Mode, base: u16, v: usize, number: u16) -> u16
-    ghost { Net }
-    requires* { λ N. opened 𝓤 file.now net.now N (Sourced N × (mode_closed mode N ≡ false) × (base ≡ origin N) × (v < size N) × (number ≡ lead_to N (mode_ends mode N) v)) }
-    ensures* { λ N r. ⌜ r ≡ (mode_timing mode N).lead v ⌝ }
+    requires circuit { Circuit file.now net.now }
+    requires asked { let N = net_of file.now net.now in Sourced N × (mode_closed mode N ≡ false) × (base ≡ origin N) × (v < size N) × (number ≡ lead_to N (mode_ends mode N) v) }
+    ensures { let N = net_of file.now net.now in result ≡ (mode_timing mode N).lead v }
 {
     match mode {
         Mode::Plain => number - base,
@@ -64,9 +65,9 @@ fn timed(file: &[u8], net: &[u16], mode: Mode, base: u16, v: usize, number: u16)
 
 // The numbers found become the leads of the mode's timing.
 pub fn finish(file: &[u8], net: &[u16], mode: Mode, base: u16, leads: &mut [u16])
-    ghost { Net }
-    requires* { λ N. opened 𝓤 file.now net.now N (Sourced N × (mode_closed mode N ≡ false) × (base ≡ origin N) × Found N (mode_ends mode N) leads.old × (size N ≤ length leads.old)) }
-    ensures* { λ N _. ⌜ LeadsIn N (mode_timing mode N) leads.new ⌝ }
+    requires circuit { Circuit file.now net.now }
+    requires asked { let N = net_of file.now net.now in Sourced N × (mode_closed mode N ≡ false) × (base ≡ origin N) × Found N (mode_ends mode N) leads.old × (size N ≤ length leads.old) }
+    ensures { let N = net_of file.now net.now in LeadsIn N (mode_timing mode N) leads.new }
 {
     let n = node_count(file, net);
     let mut v: usize = 0;

@@ -1,7 +1,7 @@
 // A worklist: nodes whose numbers were raised wait on a stack until they raise what they read. It saves passes, and nobody trusts it.
 ghost use Rattle.std.specs.Prelude.{◌≡◌, ◌+◌, ◌≤◌, ◌<◌, length};
 ghost use Rattle.netlist.specs.Net.{Net, size, Sourced};
-ghost use Rattle.circuit.specs.Circuit.{Circuit};
+ghost use Rattle.circuit.specs.Circuit.{Circuit, net_of};
 ghost use Rattle.circuit.specs.Opened.{opened};
 ghost use Rattle.leads.specs.Progress.{StillWalked};
 
@@ -29,9 +29,9 @@ fn push(work: &mut [u16], u: usize, depth: usize) -> usize
 
 // Puts what node x reads on the stack.
 fn push_sources(file: &[u8], net: &[u16], x: usize, work: &mut [u16], start: usize) -> usize
-    ghost { Net }
-    requires* { λ N. opened 𝓤 file.now net.now N ((x < size N) × (length work.old ≡ 2048)) }
-    ensures* { λ _ r. ⌜ r ≤ start + 3 ⌝ }
+    requires circuit { Circuit file.now net.now }
+    requires asked { let N = net_of file.now net.now in (x < size N) × (length work.old ≡ 2048) }
+    ensures { result ≤ start + 3 }
 {
     let n = source_count(file, net, x);
     let mut depth = start;
@@ -60,9 +60,9 @@ fn push_order(file: &[u8], net: &[u16], work: &mut [u16]) -> usize
 // Visits the nodes in order from the last on, and again those whose number was raised: each raises what it reads.
 // A number over the bound shows a closed debt, and ends it.
 pub fn spread(file: &[u8], net: &[u16], bound: usize, leads: &mut [u16])
-    ghost { Net }
-    requires* { λ N. opened 𝓤 file.now net.now N (Sourced N × (bound < 65535) × (size N ≤ length leads.old)) }
-    ensures* { λ N _. ⌜ StillWalked N leads.old leads.new ⌝ }
+    requires circuit { Circuit file.now net.now }
+    requires asked { let N = net_of file.now net.now in Sourced N × (bound < 65535) × (size N ≤ length leads.old) }
+    ensures { let N = net_of file.now net.now in StillWalked N leads.old leads.new }
 {
     let n = node_count(file, net);
     let mut work = [0u16; 2048];

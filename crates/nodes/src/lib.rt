@@ -1,4 +1,5 @@
 // Reads the content of a node field.
+#![tactic(auto)]
 pub mod good;
 
 ghost use Rattle.std.specs.Prelude.{◌≡◌, ◌+◌, ◌*◌, ◌<◌, ◌≤◌, length, ltb};

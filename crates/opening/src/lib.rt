@@ -1,4 +1,5 @@
 // Opens a file: reads its fields one by one, and puts them into a circuit.
+#![tactic(auto)]
 mod fields;
 pub mod rows;
 

@@ -13,9 +13,9 @@ use circuit::{node_count, wide};
 
 // Tries the nodes of a hint, in its order, and gives how many are placed.
 fn place_hinted(file: &[u8], net: &[u16], hint: &[u16], area: &mut [u16]) -> usize
-    ghost { Net }
-    requires* { λ N. opened 𝓤 file.now net.now N (Sourced N × (1024 ≤ length hint.now) × (length area.old ≡ 4096) × Placed in_clock N (flags_in area.old) (order_in area.old) 0) }
-    ensures* { λ N r. ⌜ Placed in_clock N (flags_in area.new) (order_in area.new) r ⌝ }
+    requires circuit { Circuit file.now net.now }
+    requires asked { let N = net_of file.now net.now in Sourced N × (1024 ≤ length hint.now) × (length area.old ≡ 4096) × Placed in_clock N (flags_in area.old) (order_in area.old) 0 }
+    ensures { let N = net_of file.now net.now in Placed in_clock N (flags_in area.new) (order_in area.new) result }
 {
     let n = node_count(file, net);
     let mut k: usize = 0;
@@ -29,10 +29,10 @@ fn place_hinted(file: &[u8], net: &[u16], hint: &[u16], area: &mut [u16]) -> usi
 
 // Puts the nodes into the order of a hint, as far as it has each after what it reads within the clock, and the others behind. Nobody trusts the hint.
 pub fn order_by(file: &[u8], net: &mut [u16], hint: &[u16])
-    ghost { Net }
-    requires* { λ N. opened 𝓤 file.now net.old N (WellFormed N × (1024 ≤ length hint.now)) }
-    ensures* { λ N _. ⌜ (net_of file.now net.new ≡ N) × Circuit file.now net.new
-        × Complete in_clock N (order_of net.new) ⌝ }
+    requires circuit { Circuit file.now net.old }
+    requires asked { let N = net_of file.now net.old in WellFormed N × (1024 ≤ length hint.now) }
+    ensures { let N = net_of file.now net.old in (net_of file.now net.new ≡ N) × Circuit file.now net.new
+        × Complete in_clock N (order_of net.new) }
 {
     let mut area = [0u16; PLACING];
     let placed = place_hinted(file, net, hint, &mut area);

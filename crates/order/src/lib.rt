@@ -1,5 +1,6 @@
 // Puts the nodes of a circuit into an order in which each comes after what it reads within the clock.
 // A node is placed where all that it reads is placed; else it waits for a source that is missing.
+#![tactic(auto)]
 pub mod hinted;
 
 ghost use Rattle.std.specs.Prelude.{◌≡◌, true, false, ℕ, ◌<◌, ◌≤◌, length, get_or};
@@ -21,9 +22,9 @@ pub enum Steps {
 
 // How many sources of node v, from the first on, count. Kinds follow no pattern: there is no branch on them.
 pub fn count_at(file: &[u8], net: &[u16], steps: Steps, v: usize) -> usize
-    ghost { Net }
-    requires* { λ N. opened 𝓤 file.now net.now N (v < size N) }
-    ensures* { λ N r. ⌜ (r ≡ (class_of steps).of (element_at N v)) × (r ≤ 3) ⌝ }
+    requires circuit { Circuit file.now net.now }
+    requires asked { let N = net_of file.now net.now in v < size N }
+    ensures { let N = net_of file.now net.now in (result ≡ (class_of steps).of (element_at N v)) × (result ≤ 3) }
 {
     match steps {
         Steps::InClock => {
@@ -50,9 +51,9 @@ const NONE: usize = 65535;
 
 // The first source of node v within the clock that is not flagged, or none.
 fn missing(file: &[u8], net: &[u16], area: &[u16], v: usize) -> usize
-    ghost { Net }
-    requires* { λ N. opened 𝓤 file.now net.now N (Sourced N × (v < size N) × (length area.now ≡ 4096)) }
-    ensures* { λ N r. ⌜ (r ≡ 65535 → ready in_clock N (flags_in area.now) v ≡ true) × (r < 65535 → ready in_clock N (flags_in area.now) v ≡ false) × (r ≤ 65535) ⌝ }
+    requires circuit { Circuit file.now net.now }
+    requires asked { let N = net_of file.now net.now in Sourced N × (v < size N) × (length area.now ≡ 4096) }
+    ensures { let N = net_of file.now net.now in (result ≡ 65535 → ready in_clock N (flags_in area.now) v ≡ true) × (result < 65535 → ready in_clock N (flags_in area.now) v ≡ false) × (result ≤ 65535) }
 {
     let n = count_at(file, net, Steps::InClock, v);
     let mut p: usize = 0;
@@ -80,9 +81,9 @@ fn wait(v: usize, u: usize, area: &mut [u16])
 
 // Places node v next where it is ready and not placed yet, or lets it wait; gives the number of nodes placed.
 fn place(file: &[u8], net: &[u16], v: usize, k: usize, area: &mut [u16]) -> usize
-    ghost { Net }
-    requires* { λ N. opened 𝓤 file.now net.now N (Sourced N × (v < size N) × (length area.old ≡ 4096) × Placed in_clock N (flags_in area.old) (order_in area.old) k) }
-    ensures* { λ N r. ⌜ PlacedOnce in_clock N (flags_in area.old) (flags_in area.new) (order_in area.new) k r v ⌝ }
+    requires circuit { Circuit file.now net.now }
+    requires asked { let N = net_of file.now net.now in Sourced N × (v < size N) × (length area.old ≡ 4096) × Placed in_clock N (flags_in area.old) (order_in area.old) k }
+    ensures { let N = net_of file.now net.now in PlacedOnce in_clock N (flags_in area.old) (flags_in area.new) (order_in area.new) k result v }
 {
     if 0 < read_at(area, FLAGS + v) {
         return k;
@@ -99,9 +100,9 @@ fn place(file: &[u8], net: &[u16], v: usize, k: usize, area: &mut [u16]) -> usiz
 
 // The same where v is a node.
 fn place_if(file: &[u8], net: &[u16], v: usize, k: usize, area: &mut [u16]) -> usize
-    ghost { Net }
-    requires* { λ N. opened 𝓤 file.now net.now N (Sourced N × (length area.old ≡ 4096) × Placed in_clock N (flags_in area.old) (order_in area.old) k) }
-    ensures* { λ N r. ⌜ Placed in_clock N (flags_in area.new) (order_in area.new) r ⌝ }
+    requires circuit { Circuit file.now net.now }
+    requires asked { let N = net_of file.now net.now in Sourced N × (length area.old ≡ 4096) × Placed in_clock N (flags_in area.old) (order_in area.old) k }
+    ensures { let N = net_of file.now net.now in Placed in_clock N (flags_in area.new) (order_in area.new) result }
 {
     if v < node_count(file, net) {
         place(file, net, v, k, area)
@@ -112,9 +113,9 @@ fn place_if(file: &[u8], net: &[u16], v: usize, k: usize, area: &mut [u16]) -> u
 
 // Tries the nodes that wait for node v.
 fn wake(file: &[u8], net: &[u16], v: usize, start: usize, area: &mut [u16]) -> usize
-    ghost { Net }
-    requires* { λ N. opened 𝓤 file.now net.now N (Sourced N × (v < 1024) × (length area.old ≡ 4096) × Placed in_clock N (flags_in area.old) (order_in area.old) start) }
-    ensures* { λ N r. ⌜ Placed in_clock N (flags_in area.new) (order_in area.new) r ⌝ }
+    requires circuit { Circuit file.now net.now }
+    requires asked { let N = net_of file.now net.now in Sourced N × (v < 1024) × (length area.old ≡ 4096) × Placed in_clock N (flags_in area.old) (order_in area.old) start }
+    ensures { let N = net_of file.now net.now in Placed in_clock N (flags_in area.new) (order_in area.new) result }
 {
     let mut w = wide(read_at(area, HEADS + v));
     let mut k = start;
@@ -133,9 +134,9 @@ fn wake(file: &[u8], net: &[u16], v: usize, start: usize, area: &mut [u16]) -> u
 
 // Tries the nodes that wait, from those for the first node of the order on.
 fn wake_all(file: &[u8], net: &[u16], start: usize, area: &mut [u16]) -> usize
-    ghost { Net }
-    requires* { λ N. opened 𝓤 file.now net.now N (Sourced N × (length area.old ≡ 4096) × Placed in_clock N (flags_in area.old) (order_in area.old) start) }
-    ensures* { λ N r. ⌜ Placed in_clock N (flags_in area.new) (order_in area.new) r ⌝ }
+    requires circuit { Circuit file.now net.now }
+    requires asked { let N = net_of file.now net.now in Sourced N × (length area.old ≡ 4096) × Placed in_clock N (flags_in area.old) (order_in area.old) start }
+    ensures { let N = net_of file.now net.now in Placed in_clock N (flags_in area.new) (order_in area.new) result }
 {
     let n = node_count(file, net);
     let mut k = start;
@@ -152,9 +153,9 @@ fn wake_all(file: &[u8], net: &[u16], start: usize, area: &mut [u16]) -> usize
 
 // One pass over the nodes in file order.
 fn sweep(file: &[u8], net: &[u16], start: usize, area: &mut [u16]) -> usize
-    ghost { Net }
-    requires* { λ N. opened 𝓤 file.now net.now N (Sourced N × (length area.old ≡ 4096) × Placed in_clock N (flags_in area.old) (order_in area.old) start) }
-    ensures* { λ N r. ⌜ PlacedPass in_clock N (flags_in area.old) (flags_in area.new) (order_in area.new) start r (size N) ⌝ }
+    requires circuit { Circuit file.now net.now }
+    requires asked { let N = net_of file.now net.now in Sourced N × (length area.old ≡ 4096) × Placed in_clock N (flags_in area.old) (order_in area.old) start }
+    ensures { let N = net_of file.now net.now in PlacedPass in_clock N (flags_in area.old) (flags_in area.new) (order_in area.new) start result (size N) }
 {
     let n = node_count(file, net);
     let mut k = start;
@@ -168,9 +169,9 @@ fn sweep(file: &[u8], net: &[u16], start: usize, area: &mut [u16]) -> usize
 
 // Passes until all are placed, or nothing more can be. Where no node is behind a loop there is none.
 fn settle(file: &[u8], net: &[u16], start: usize, area: &mut [u16]) -> usize
-    ghost { Net }
-    requires* { λ N. opened 𝓤 file.now net.now N (Sourced N × (length area.old ≡ 4096) × Placed in_clock N (flags_in area.old) (order_in area.old) start) }
-    ensures* { λ N r. ⌜ Placed in_clock N (flags_in area.new) (order_in area.new) r × Waiting (ready in_clock N) (flags_in area.new) (size N) ⌝ }
+    requires circuit { Circuit file.now net.now }
+    requires asked { let N = net_of file.now net.now in Sourced N × (length area.old ≡ 4096) × Placed in_clock N (flags_in area.old) (order_in area.old) start }
+    ensures { let N = net_of file.now net.now in Placed in_clock N (flags_in area.new) (order_in area.new) result × Waiting (ready in_clock N) (flags_in area.new) (size N) }
 {
     let n = node_count(file, net);
     let mut k = start;
@@ -186,10 +187,10 @@ fn settle(file: &[u8], net: &[u16], start: usize, area: &mut [u16]) -> usize
 
 // Keeps the order in the circuit.
 fn keep_order(file: &[u8], net: &mut [u16], area: &[u16])
-    ghost { Net }
-    requires* { λ N. opened 𝓤 file.now net.old N (length area.now ≡ 4096) }
-    ensures* { λ N _. ⌜ (net_of file.now net.new ≡ N) × Circuit file.now net.new
-        × ((i : ℕ) → i < size N → get_or (order_of net.new) i 0 ≡ get_or area.now i 0) ⌝ }
+    requires circuit { Circuit file.now net.old }
+    requires asked { length area.now ≡ 4096 }
+    ensures { let N = net_of file.now net.old in (net_of file.now net.new ≡ N) × Circuit file.now net.new
+        × ((i : ℕ) → i < size N → get_or (order_of net.new) i 0 ≡ get_or area.now i 0) }
 {
     let n = node_count(file, net);
     let mut i: usize = 0;
@@ -201,10 +202,10 @@ fn keep_order(file: &[u8], net: &mut [u16], area: &[u16])
 
 // Puts the nodes into an order, in the circuit, as far as they can be, and gives how many.
 pub fn order_nodes(file: &[u8], net: &mut [u16]) -> usize
-    ghost { Net }
-    requires* { λ N. opened 𝓤 file.now net.old N (Sourced N) }
-    ensures* { λ N r. ⌜ (net_of file.now net.new ≡ N) × Circuit file.now net.new
-        × Outcome in_clock N (order_of net.new) r ⌝ }
+    requires circuit { Circuit file.now net.old }
+    requires asked { let N = net_of file.now net.old in Sourced N }
+    ensures { let N = net_of file.now net.old in (net_of file.now net.new ≡ N) × Circuit file.now net.new
+        × Outcome in_clock N (order_of net.new) result }
 {
     let mut area = [0u16; PLACING];
     let first = sweep(file, net, 0, &mut area);

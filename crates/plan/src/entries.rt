@@ -7,6 +7,7 @@ ghost use Rattle.wiring.specs.Wiring.{Timed, ends_in, clocks_in, heads_in};
 ghost use Rattle.wiring.specs.Links.{Chained, RomsLinked};
 ghost use Rattle.plan.specs.Areas.{owners_in, words_in, late_in, firsts_in};
 ghost use Rattle.plan.specs.Entries.{Finds, Placing, Adds, Wants, AddsAll, entries_before, AllPlaced};
+ghost use Rattle.circuit.specs.Circuit.{net_of, Circuit};
 
 use super::{FIRSTS, WORDS};
 use areas::{read_at, write_at};
@@ -95,13 +96,13 @@ fn place(
     count: usize,
     plan: &mut [u16],
 ) -> usize
-    ghost { Net }
-    requires* { λ N. opened 𝓤 file.now net.now N ((u < size N) × ((mode_timing mode N).keeps u ≡ true) × (count ≤ 1024)
+    requires circuit { Circuit file.now net.now }
+    requires asked { let N = net_of file.now net.now in (u < size N) × ((mode_timing mode N).keeps u ≡ true) × (count ≤ 1024)
         × (length wires.now ≡ 10240) × (length copied.now ≡ 3072) × (length plan.old ≡ 7168)
         × Wants N (mode_timing mode N) (ends_in wires.now) copied.now × RomsLinked N (ends_in wires.now) (heads_in wires.now) (clocks_in wires.now)
-        × Placing (owners_in plan.old) (words_in plan.old) (entries_before N (mode_timing mode N) u) count) }
-    ensures* { λ N r. ⌜ Placing (owners_in plan.new) (words_in plan.new) (entries_before N (mode_timing mode N) (u + 1)) r × (r ≤ 4096)
-        × (late_in plan.new ≡ late_in plan.old) × (firsts_in plan.new ≡ firsts_in plan.old) ⌝ }
+        × Placing (owners_in plan.old) (words_in plan.old) (entries_before N (mode_timing mode N) u) count }
+    ensures { let N = net_of file.now net.now in Placing (owners_in plan.new) (words_in plan.new) (entries_before N (mode_timing mode N) (u + 1)) result × (result ≤ 4096)
+        × (late_in plan.new ≡ late_in plan.old) × (firsts_in plan.new ≡ firsts_in plan.old) }
 {
     if memory_bit(file, net, u) == 1 {
         let head = wide(read_at(wires, HEADS + u));
@@ -124,12 +125,12 @@ pub fn place_entries(
     copied: &[u16],
     plan: &mut [u16],
 ) -> usize
-    ghost { Net }
-    requires* { λ N. opened 𝓤 file.now net.now N (Timed N (mode_timing mode N) timing.now × (length timing.now ≡ 3072)
+    requires circuit { Circuit file.now net.now }
+    requires asked { let N = net_of file.now net.now in Timed N (mode_timing mode N) timing.now × (length timing.now ≡ 3072)
         × (length wires.now ≡ 10240) × (length copied.now ≡ 3072) × (length plan.old ≡ 7168)
-        × Wants N (mode_timing mode N) (ends_in wires.now) copied.now × RomsLinked N (ends_in wires.now) (heads_in wires.now) (clocks_in wires.now)) }
-    ensures* { λ N r. ⌜ AllPlaced N (mode_timing mode N) (owners_in plan.new) (words_in plan.new) (firsts_in plan.new) r
-        × (late_in plan.new ≡ late_in plan.old) ⌝ }
+        × Wants N (mode_timing mode N) (ends_in wires.now) copied.now × RomsLinked N (ends_in wires.now) (heads_in wires.now) (clocks_in wires.now) }
+    ensures { let N = net_of file.now net.now in AllPlaced N (mode_timing mode N) (owners_in plan.new) (words_in plan.new) (firsts_in plan.new) result
+        × (late_in plan.new ≡ late_in plan.old) }
 {
     let n = node_count(file, net);
     let mut count: usize = 0;

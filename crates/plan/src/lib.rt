@@ -1,10 +1,11 @@
 // Where everything goes in the rewritten netlist, and which words its ROMs take over: document 01, "Leads and the rewritten file".
+#![tactic(auto)]
 mod entries;
 pub mod registers;
 
 ghost use Rattle.std.specs.Prelude.{◌≡◌, ◌*◌, length};
 ghost use Rattle.netlist.specs.Net.{Net, size, in_clock};
-ghost use Rattle.circuit.specs.Circuit.{order_of};
+ghost use Rattle.circuit.specs.Circuit.{order_of, net_of, Circuit};
 ghost use Rattle.circuit.specs.Opened.{opened};
 ghost use Rattle.circuit.specs.Order.{Complete};
 ghost use Rattle.evaluate.specs.Clock.{Inside};
@@ -62,11 +63,11 @@ fn copied_words(
     queue: &mut [u16],
     copied: &mut [u16],
 )
-    ghost { Net }
-    requires* { λ N. opened 𝓤 file.now net.now N (Timed N (mode_timing mode N) timing.now × (length timing.now ≡ 3072) × Inside N × Complete in_clock N (order_of net.now)
+    requires circuit { Circuit file.now net.now }
+    requires asked { let N = net_of file.now net.now in Timed N (mode_timing mode N) timing.now × (length timing.now ≡ 3072) × Inside N × Complete in_clock N (order_of net.now)
         × WordsAt N 0 start.now × (length start.now ≡ 1024) × (length wires.now ≡ 10240) × Entered N (mode_timing mode N) wires.now (3 * size N) × (length queue.old ≡ 7168)
-        × (length copied.old ≡ 3072)) }
-    ensures* { λ N _. ⌜ Taken N (clocks_in wires.now) (froms_in wires.now) copied.old copied.new ⌝ }
+        × (length copied.old ≡ 3072) }
+    ensures { let N = net_of file.now net.now in Taken N (clocks_in wires.now) (froms_in wires.now) copied.old copied.new }
 {
     first_words(
         file,
@@ -90,10 +91,10 @@ pub fn make_plan(
     wires: &mut [u16],
     plan: &mut [u16],
 ) -> Plan
-    ghost { Net }
-    requires* { λ N. opened 𝓤 file.now net.now N (Timed N (mode_timing mode N) timing.now × (length timing.now ≡ 3072) × Inside N × Complete in_clock N (order_of net.now)
-        × WordsAt N 0 start.now × (length start.now ≡ 1024) × (length wires.old ≡ 10240) × (length plan.old ≡ 7168)) }
-    ensures* { λ N r. ⌜ PlanLaid N (mode_timing mode N) plan.new r.entries r.total × (r.mode ≡ mode) ⌝ }
+    requires circuit { Circuit file.now net.now }
+    requires asked { let N = net_of file.now net.now in Timed N (mode_timing mode N) timing.now × (length timing.now ≡ 3072) × Inside N × Complete in_clock N (order_of net.now)
+        × WordsAt N 0 start.now × (length start.now ≡ 1024) × (length wires.old ≡ 10240) × (length plan.old ≡ 7168) }
+    ensures { let N = net_of file.now net.now in PlanLaid N (mode_timing mode N) plan.new result.entries result.total × (result.mode ≡ mode) }
 {
     fill(wires, 65535);
     let mut copied = [0u16; 3072];

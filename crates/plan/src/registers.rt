@@ -7,6 +7,7 @@ ghost use Rattle.wires.specs.Traced.{roots_in, passes_in};
 ghost use Rattle.wiring.specs.Wiring.{ends_in};
 ghost use Rattle.plan.specs.Areas.{owners_in, words_in, late_in, firsts_in, sources_in};
 ghost use Rattle.plan.specs.Registers.{behind, PutsRegisters, entry_count, Planning, Laid, AllLaid};
+ghost use Rattle.circuit.specs.Circuit.{net_of, Circuit};
 
 use super::entries::find_from;
 use super::{FIRSTS, LATE, Operand, Plan, SOURCES};
@@ -83,16 +84,16 @@ fn lay_wire(
     to: Operand,
     plan: &mut [u16],
 ) -> usize
-    ghost { Net }
-    requires* { λ N. opened 𝓤 file.now net.now N (Planning N (mode_timing made.mode N) timing.now (roots_in timing.now) (passes_in timing.now)
+    requires circuit { Circuit file.now net.now }
+    requires asked { let N = net_of file.now net.now in Planning N (mode_timing made.mode N) timing.now (roots_in timing.now) (passes_in timing.now)
         (ends_in wires.now) copied.now (firsts_in plan.old)
         × (length timing.now ≡ 3072) × (length wires.now ≡ 10240) × (length copied.now ≡ 3072) × (length plan.old ≡ 7168)
         × (made.entries ≡ entry_count N (mode_timing made.mode N)) × (made.total ≤ 1024)
         × (to.e < made.entries) × (to.p < operands (element_at N (get_or (owners_in plan.old) to.e 0)))
-        × Laid N (mode_timing made.mode N) (owners_in plan.old) (words_in plan.old) (late_in plan.old) (sources_in plan.old) (3 * to.e + to.p) made.total) }
-    ensures* { λ N r. ⌜ Laid N (mode_timing made.mode N) (owners_in plan.new) (words_in plan.new) (late_in plan.new) (sources_in plan.new)
-        (3 * to.e + to.p + 1) r
-        × (r ≤ 4099) × (firsts_in plan.new ≡ firsts_in plan.old) ⌝ }
+        × Laid N (mode_timing made.mode N) (owners_in plan.old) (words_in plan.old) (late_in plan.old) (sources_in plan.old) (3 * to.e + to.p) made.total }
+    ensures { let N = net_of file.now net.now in Laid N (mode_timing made.mode N) (owners_in plan.new) (words_in plan.new) (late_in plan.new) (sources_in plan.new)
+        (3 * to.e + to.p + 1) result
+        × (result ≤ 4099) × (firsts_in plan.new ≡ firsts_in plan.old) }
 {
     let mode = made.mode;
     let entries = made.entries;
@@ -125,16 +126,16 @@ fn lay_entry(
     e: usize,
     plan: &mut [u16],
 ) -> usize
-    ghost { Net }
-    requires* { λ N. opened 𝓤 file.now net.now N (Planning N (mode_timing made.mode N) timing.now (roots_in timing.now) (passes_in timing.now)
+    requires circuit { Circuit file.now net.now }
+    requires asked { let N = net_of file.now net.now in Planning N (mode_timing made.mode N) timing.now (roots_in timing.now) (passes_in timing.now)
         (ends_in wires.now) copied.now (firsts_in plan.old)
         × (length timing.now ≡ 3072) × (length wires.now ≡ 10240) × (length copied.now ≡ 3072) × (length plan.old ≡ 7168)
         × (made.entries ≡ entry_count N (mode_timing made.mode N)) × (made.total ≤ 1024) × (e < made.entries)
-        × Laid N (mode_timing made.mode N) (owners_in plan.old) (words_in plan.old) (late_in plan.old) (sources_in plan.old) (3 * e) made.total) }
-    ensures* { λ N r. ⌜ (r ≤ 1024 → Laid N (mode_timing made.mode N) (owners_in plan.new) (words_in plan.new) (late_in plan.new) (sources_in plan.new)
-        (3 * e + 3) r)
-        × (1024 < r → AllLaid N (mode_timing made.mode N) (owners_in plan.new) (words_in plan.new) (late_in plan.new) (sources_in plan.new) r)
-        × (firsts_in plan.new ≡ firsts_in plan.old) ⌝ }
+        × Laid N (mode_timing made.mode N) (owners_in plan.old) (words_in plan.old) (late_in plan.old) (sources_in plan.old) (3 * e) made.total }
+    ensures { let N = net_of file.now net.now in (result ≤ 1024 → Laid N (mode_timing made.mode N) (owners_in plan.new) (words_in plan.new) (late_in plan.new) (sources_in plan.new)
+        (3 * e + 3) result)
+        × (1024 < result → AllLaid N (mode_timing made.mode N) (owners_in plan.new) (words_in plan.new) (late_in plan.new) (sources_in plan.new) result)
+        × (firsts_in plan.new ≡ firsts_in plan.old) }
 {
     let mode = made.mode;
     let entries = made.entries;
@@ -169,13 +170,13 @@ pub fn lay_wires(
     entries: usize,
     plan: &mut [u16],
 ) -> usize
-    ghost { Net }
-    requires* { λ N. opened 𝓤 file.now net.now N (Planning N (mode_timing mode N) timing.now (roots_in timing.now) (passes_in timing.now)
+    requires circuit { Circuit file.now net.now }
+    requires asked { let N = net_of file.now net.now in Planning N (mode_timing mode N) timing.now (roots_in timing.now) (passes_in timing.now)
         (ends_in wires.now) copied.now (firsts_in plan.old)
         × (length timing.now ≡ 3072) × (length wires.now ≡ 10240) × (length copied.now ≡ 3072)
         × (entries ≡ entry_count N (mode_timing mode N)) × (length plan.old ≡ 7168)
-        × Laid N (mode_timing mode N) (owners_in plan.old) (words_in plan.old) (late_in plan.old) (sources_in plan.old) 0 entries) }
-    ensures* { λ N r. ⌜ AllLaid N (mode_timing mode N) (owners_in plan.new) (words_in plan.new) (late_in plan.new) (sources_in plan.new) r ⌝ }
+        × Laid N (mode_timing mode N) (owners_in plan.old) (words_in plan.old) (late_in plan.old) (sources_in plan.old) 0 entries }
+    ensures { let N = net_of file.now net.now in AllLaid N (mode_timing mode N) (owners_in plan.new) (words_in plan.new) (late_in plan.new) (sources_in plan.new) result }
 {
     let mut total = entries;
     let mut e: usize = 0;

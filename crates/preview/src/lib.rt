@@ -1,5 +1,6 @@
 // The preview: what rewriting a file into an output as long as is wanted would give. Checks 1 to 13; then 14, where the list for the registers by source is
 // too short. Nothing else is written.
+#![tactic(auto)]
 mod sources;
 
 ghost use Rattle.std.specs.Prelude.{◌≡◌, length};
@@ -19,9 +20,8 @@ use sources::list_sources;
 
 // The size of a circuit, beside the largest lead of the netlist that it was made from.
 fn measure(file: &[u8], new: &[u16], lead: u16) -> Size
-    ghost { Net }
-    requires* { λ M. ⌜ net_of file.now new.now ≡ M ⌝ ∗ ⌜ Circuit file.now new.now ⌝ }
-    ensures* { λ M r. ⌜ Measures M lead r ⌝ }
+    requires circuit { Circuit file.now new.now }
+    ensures { let M = net_of file.now new.now in Measures M lead result }
 {
     let registers = count_kind(file, new, 2);
     Size {
@@ -35,9 +35,9 @@ fn measure(file: &[u8], new: &[u16], lead: u16) -> Size
 
 // The size and the list of a rewritten circuit, where the list is long enough: 14.
 fn measure_fitting(file: &[u8], new: &[u16], lead: u16, list: &mut [u8]) -> Preview
-    ghost { Net }
-    requires* { λ M. opened 𝓤 file.now new.now M (RegistersLast M (length (by_source M))) }
-    ensures* { λ M r. ⌜ (r ≡ (previewed M lead list.old).preview) × (list.new ≡ (previewed M lead list.old).list) ⌝ }
+    requires circuit { Circuit file.now new.now }
+    requires asked { let M = net_of file.now new.now in RegistersLast M (length (by_source M)) }
+    ensures { let M = net_of file.now new.now in (result ≡ (previewed M lead list.old).preview) × (list.new ≡ (previewed M lead list.old).list) }
 {
     let size = measure(file, new, lead);
     let sources = wide(size.sources);

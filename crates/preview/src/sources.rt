@@ -7,6 +7,7 @@ ghost use Rattle.retiming.specs.Rewrite.{root};
 ghost use Rattle.retiming.specs.RegistersLast.{RegistersLast};
 ghost use Rattle.retiming.specs.Preview.{source_bytes};
 ghost use Rattle.preview.specs.Counting.{Follows, Zeroed};
+ghost use Rattle.circuit.specs.Circuit.{net_of, Circuit};
 
 use circuit::{node_count, source_of};
 use words::{put_word, word_at};
@@ -34,9 +35,9 @@ fn add_one(list: &mut [u8], u: usize)
 
 // Where the wire of register v comes from, from where that of the register before it does.
 fn wire_source(file: &[u8], new: &[u16], sources: usize, v: usize, before: usize) -> usize
-    ghost { Net }
-    requires* { λ M. opened 𝓤 file.now new.now M (RegistersLast M sources × (sources ≤ v) × (v < size M) × Follows M sources v before) }
-    ensures* { λ M r. ⌜ (r ≡ root M v) × (r < sources) ⌝ }
+    requires circuit { Circuit file.now new.now }
+    requires asked { let M = net_of file.now new.now in RegistersLast M sources × (sources ≤ v) × (v < size M) × Follows M sources v before }
+    ensures { let M = net_of file.now new.now in (result ≡ root M v) × (result < sources) }
 {
     let u = source_of(file, new, v, 0);
     if u < sources { u } else { before }
@@ -44,9 +45,9 @@ fn wire_source(file: &[u8], new: &[u16], sources: usize, v: usize, before: usize
 
 // Counts each register at the source of its wire. The registers of a wire stand one after the other, from source to reader, so one pass finds all sources.
 fn count_registers(file: &[u8], new: &[u16], sources: usize, list: &mut [u8])
-    ghost { Net }
-    requires* { λ M. opened 𝓤 file.now new.now M (RegistersLast M sources × (2 * sources ≤ length list.old) × Zeroed list.old sources) }
-    ensures* { λ M _. ⌜ list.new ≡ source_bytes M ++ drop (2 * sources) list.old ⌝ }
+    requires circuit { Circuit file.now new.now }
+    requires asked { let M = net_of file.now new.now in RegistersLast M sources × (2 * sources ≤ length list.old) × Zeroed list.old sources }
+    ensures { let M = net_of file.now new.now in list.new ≡ source_bytes M ++ drop (2 * sources) list.old }
 {
     let n = node_count(file, new);
     let mut from: usize = 0;
@@ -60,9 +61,9 @@ fn count_registers(file: &[u8], new: &[u16], sources: usize, list: &mut [u8])
 
 // Writes the numbers of a rewritten netlist; the bytes behind them stay.
 pub fn list_sources(file: &[u8], new: &[u16], sources: usize, list: &mut [u8])
-    ghost { Net }
-    requires* { λ M. opened 𝓤 file.now new.now M (RegistersLast M sources × (2 * sources ≤ length list.old)) }
-    ensures* { λ M _. ⌜ list.new ≡ source_bytes M ++ drop (2 * sources) list.old ⌝ }
+    requires circuit { Circuit file.now new.now }
+    requires asked { let M = net_of file.now new.now in RegistersLast M sources × (2 * sources ≤ length list.old) }
+    ensures { let M = net_of file.now new.now in list.new ≡ source_bytes M ++ drop (2 * sources) list.old }
 {
     clear(list, 2 * sources);
     count_registers(file, new, sources, list);

@@ -1,6 +1,7 @@
 // Reads a netlist file on standard input and writes what the rewritten file would have, a line
 // `clocked ROMs: 1, registers: 2, bytes: 65, largest lead: 1` and for each of its nodes that is no register a line `registers from node 1: 2`;
 // or `refused 12 0` (number, place).
+#![tactic(auto)]
 ghost use Rattle.std.specs.Prelude.{◌*◌, ◌≤◌, length};
 
 use circuit::wide;

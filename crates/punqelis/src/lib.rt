@@ -1,4 +1,5 @@
 // The exports for C hosts: include/punqelis.h declares them. A slice is a pointer and a length; the answer is one number.
+#![tactic(auto)]
 ghost use Rattle.std.specs.Prelude.{◌≡◌, ◌≤◌};
 ghost use Rattle.netlist.specs.File.{check_answer};
 ghost use Rattle.behaviour.specs.Service.{reset_file, run_file};

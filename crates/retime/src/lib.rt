@@ -1,9 +1,10 @@
 // The new netlist of a file as a circuit: checks 1 to 13, in either mode. The preview tells its size, and the rewriter writes it.
+#![tactic(auto)]
 
 ghost use Rattle.std.specs.Prelude.{◌≡◌, false, ◌≤◌, length};
 ghost use Rattle.netlist.specs.Net.{Net, in_clock};
 ghost use Rattle.netlist.specs.Checks.{HasTables, WellFormed};
-ghost use Rattle.circuit.specs.Circuit.{circuit_words, order_of};
+ghost use Rattle.circuit.specs.Circuit.{circuit_words, order_of, net_of, Circuit};
 ghost use Rattle.circuit.specs.Opened.{opened};
 ghost use Rattle.circuit.specs.Order.{Complete};
 ghost use Rattle.evaluate.specs.Clock.{Inside};
@@ -37,10 +38,10 @@ pub enum Retimed {
 
 // 13, of a netlist whose timing is known: the first clock, the plan, the gates, the reset words; then the circuit.
 fn lay_timed(file: &[u8], net: &[u16], mode: Mode, timing: &[u16], new: &mut [u16]) -> Verdict
-    ghost { Net }
-    requires* { λ N. opened 𝓤 file.now net.now N (Timed N (mode_timing mode N) timing.now × (length timing.now ≡ 3072) × Inside N × Complete in_clock N (order_of net.now)
-        × (circuit_words ≤ length new.old) × NewIs mode N) }
-    ensures* { λ N r. ⌜ (r ≡ grown_verdict mode N) × (r ≡ Verdict.Fine → IsCircuit file.now new.new (gated_with N (mode_timing mode N) (zero_word N))) ⌝ }
+    requires circuit { Circuit file.now net.now }
+    requires asked { let N = net_of file.now net.now in Timed N (mode_timing mode N) timing.now × (length timing.now ≡ 3072) × Inside N × Complete in_clock N (order_of net.now)
+        × (circuit_words ≤ length new.old) × NewIs mode N }
+    ensures { let N = net_of file.now net.now in (result ≡ grown_verdict mode N) × (result ≡ Verdict.Fine → IsCircuit file.now new.new (gated_with N (mode_timing mode N) (zero_word N))) }
 {
     let mut start = [0u16; 1024];
     first_clock(file, net, &mut start);
@@ -77,9 +78,9 @@ fn lay_timed(file: &[u8], net: &[u16], mode: Mode, timing: &[u16], new: &mut [u1
 
 // Leaves out the tables that no node of the new circuit reads. The plain mode has none such.
 fn leave_out_tables(file: &[u8], mode: Mode, new: &mut [u16])
-    ghost { Net }
-    requires* { λ M. opened 𝓤 file.now new.old M (HasTables M) }
-    ensures* { λ M _. ⌜ IsCircuit file.now new.new (mode_trimmed mode M) ⌝ }
+    requires circuit { Circuit file.now new.old }
+    requires asked { let M = net_of file.now new.old in HasTables M }
+    ensures { let M = net_of file.now new.old in IsCircuit file.now new.new (mode_trimmed mode M) }
 {
     match mode {
         Mode::Plain => {}
@@ -89,9 +90,9 @@ fn leave_out_tables(file: &[u8], mode: Mode, new: &mut [u16])
 
 // What the preview tells of the leads: nobody asks for it in the late mode.
 fn lead_told(file: &[u8], net: &[u16], mode: Mode, timing: &[u16]) -> u16
-    ghost { Net }
-    requires* { λ N. opened 𝓤 file.now net.now N (Timed N (mode_timing mode N) timing.now × (mode_closed mode N ≡ false)) }
-    ensures* { λ N r. ⌜ r ≡ mode_lead mode N ⌝ }
+    requires circuit { Circuit file.now net.now }
+    requires asked { let N = net_of file.now net.now in Timed N (mode_timing mode N) timing.now × (mode_closed mode N ≡ false) }
+    ensures { let N = net_of file.now net.now in result ≡ mode_lead mode N }
 {
     match mode {
         Mode::Plain => largest_lead(file, net, timing),
@@ -101,10 +102,10 @@ fn lead_told(file: &[u8], net: &[u16], mode: Mode, timing: &[u16]) -> u16
 
 // 13, then what the mode leaves out, and what is told of the leads.
 fn retime_timed(file: &[u8], net: &[u16], mode: Mode, timing: &[u16], new: &mut [u16]) -> Retimed
-    ghost { Net }
-    requires* { λ N. opened 𝓤 file.now net.now N (Timed N (mode_timing mode N) timing.now × (length timing.now ≡ 3072) × Inside N × Complete in_clock N (order_of net.now)
-        × (circuit_words ≤ length new.old) × NewIs mode N × (mode_closed mode N ≡ false)) }
-    ensures* { λ N r. ⌜ Lays file.now new.new mode N (retimed_by mode (grown_verdict mode N) N) r ⌝ }
+    requires circuit { Circuit file.now net.now }
+    requires asked { let N = net_of file.now net.now in Timed N (mode_timing mode N) timing.now × (length timing.now ≡ 3072) × Inside N × Complete in_clock N (order_of net.now)
+        × (circuit_words ≤ length new.old) × NewIs mode N × (mode_closed mode N ≡ false) }
+    ensures { let N = net_of file.now net.now in Lays file.now new.new mode N (retimed_by mode (grown_verdict mode N) N) result }
 {
     match lay_timed(file, net, mode, timing, new) {
         Verdict::Refuses(number, place) => Retimed::Refused(number, place),
@@ -117,9 +118,9 @@ fn retime_timed(file: &[u8], net: &[u16], mode: Mode, timing: &[u16], new: &mut 
 
 // 11 to 13, of a netlist that the reader takes: its leads, then its wires.
 fn retime_opened(file: &[u8], net: &[u16], mode: Mode, new: &mut [u16]) -> Retimed
-    ghost { Net }
-    requires* { λ N. opened 𝓤 file.now net.now N (WellFormed N × Inside N × Complete in_clock N (order_of net.now) × (circuit_words ≤ length new.old)) }
-    ensures* { λ N r. ⌜ Lays file.now new.new mode N (retimed_by mode (mode_verdict mode N) N) r ⌝ }
+    requires circuit { Circuit file.now net.now }
+    requires asked { let N = net_of file.now net.now in WellFormed N × Inside N × Complete in_clock N (order_of net.now) × (circuit_words ≤ length new.old) }
+    ensures { let N = net_of file.now net.now in Lays file.now new.new mode N (retimed_by mode (mode_verdict mode N) N) result }
 {
     let mut timing = [0u16; TIMING];
     match find_leads(file, net, mode, &mut timing) {

@@ -1,4 +1,5 @@
 // The rewriting program once more, with a stored run that is refused: a program has one stored run.
+#![tactic(auto)]
 use libc::{STDIN_FILENO, STDOUT_FILENO};
 use retiming::Mode;
 use rewrite_stream::rewrite_stream;

@@ -1,4 +1,5 @@
 // What a rewriting program does: it reads a file and writes the rewritten one, or the line `refused 12 0` (number, place).
+#![tactic(auto)]
 ghost use Rattle.std.specs.Prelude.{◌≡◌};
 ghost use Rattle.codec.specs.Bytes.{Bytes};
 ghost use Rattle.retiming.specs.Modes.{mode_rewrite};

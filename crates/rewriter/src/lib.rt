@@ -1,4 +1,5 @@
 // The rewriter: checks 1 to 14, and the netlist whose ROMs are all clocked, in either mode. Nothing is written before every check is passed.
+#![tactic(auto)]
 
 ghost use Rattle.std.specs.Prelude.{◌≡◌};
 ghost use Rattle.netlist.specs.Net.{Net};
@@ -16,9 +17,8 @@ use saving::{circuit_length, write_circuit};
 
 // Writes the file of a circuit, where the output is long enough for it: 14. The answer is the offset behind its end field.
 fn write_fitting(file: &[u8], net: &[u16], out: &mut [u8]) -> Answer
-    ghost { Net }
-    requires* { λ N. ⌜ net_of file.now net.now ≡ N ⌝ ∗ ⌜ Circuit file.now net.now ⌝ }
-    ensures* { λ N r. ⌜ (r ≡ (written (encode N) out.old).answer) × (out.new ≡ (written (encode N) out.old).out) ⌝ }
+    requires circuit { Circuit file.now net.now }
+    ensures { let N = net_of file.now net.now in (result ≡ (written (encode N) out.old).answer) × (out.new ≡ (written (encode N) out.old).out) }
 {
     let length = circuit_length(file, net);
     if out.len() < length {

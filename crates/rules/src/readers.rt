@@ -5,6 +5,7 @@ ghost use Rattle.netlist.specs.Net.{Net, size, source};
 ghost use Rattle.netlist.specs.Verdict.{unread};
 ghost use Rattle.circuit.specs.Opened.{opened};
 ghost use Rattle.rules.specs.Marks.{Marks, Marked};
+ghost use Rattle.circuit.specs.Circuit.{net_of, Circuit};
 
 use super::sources::or_first;
 use areas::put_flag;
@@ -12,9 +13,9 @@ use circuit::{code_of, node_count, source_count, source_of};
 
 // Marks the first n sources of node x. (Every source is a node where check 6 passed; a mark past the end would say nothing.)
 pub fn mark_sources(file: &[u8], net: &[u16], x: usize, n: usize, marks: &mut [u8])
-    ghost { Net }
-    requires* { λ N. opened 𝓤 file.now net.now N ((x < size N) × (n ≤ 3)) }
-    ensures* { λ N _. ⌜ Marked (source N x) n marks.old marks.new ⌝ }
+    requires circuit { Circuit file.now net.now }
+    requires asked { let N = net_of file.now net.now in (x < size N) × (n ≤ 3) }
+    ensures { let N = net_of file.now net.now in Marked (source N x) n marks.old marks.new }
 {
     if n == 0 {
         return;
@@ -27,9 +28,9 @@ pub fn mark_sources(file: &[u8], net: &[u16], x: usize, n: usize, marks: &mut [u
 }
 
 fn not_read(file: &[u8], net: &[u16], marks: &[u8], v: usize) -> bool
-    ghost { Net }
-    requires* { λ N. opened 𝓤 file.now net.now N ((v < size N) × Marks N marks.now (size N)) }
-    ensures* { λ N r. ⌜ r ≡ unread N v ⌝ }
+    requires circuit { Circuit file.now net.now }
+    requires asked { let N = net_of file.now net.now in (v < size N) × Marks N marks.now (size N) }
+    ensures { let N = net_of file.now net.now in result ≡ unread N v }
 {
     if 0 < marks[v] {
         return false;
@@ -40,9 +41,9 @@ fn not_read(file: &[u8], net: &[u16], marks: &[u8], v: usize) -> bool
 
 // The lowest node that check 8 refuses, or the number of nodes, by the marks of what is read.
 pub fn lowest_unread(file: &[u8], net: &[u16], marks: &[u8]) -> usize
-    ghost { Net }
-    requires* { λ N. opened 𝓤 file.now net.now N (Marks N marks.now (size N)) }
-    ensures* { λ N r. ⌜ r ≡ lowest (size N) (unread N) ⌝ }
+    requires circuit { Circuit file.now net.now }
+    requires asked { let N = net_of file.now net.now in Marks N marks.now (size N) }
+    ensures { let N = net_of file.now net.now in result ≡ lowest (size N) (unread N) }
 {
     let n = node_count(file, net);
     let mut v: usize = 0;

@@ -13,9 +13,9 @@ use circuit::{code_of, node_count, source_count, source_of, table_count, table_o
 
 // Whether the table of node v is missing. Only a ROM has one, and the code tells the ROMs.
 fn table_missing(file: &[u8], net: &[u16], v: usize) -> bool
-    ghost { Net }
-    requires* { λ N. opened 𝓤 file.now net.now N (v < size N) }
-    ensures* { λ N r. ⌜ r ≡ not (table_there N.tables (element_at N v)) ⌝ }
+    requires circuit { Circuit file.now net.now }
+    requires asked { let N = net_of file.now net.now in v < size N }
+    ensures { let N = net_of file.now net.now in result ≡ not (table_there N.tables (element_at N v)) }
 {
     let code = code_of(file, net, v);
     if code < 3 {
@@ -33,9 +33,8 @@ fn table_missing(file: &[u8], net: &[u16], v: usize) -> bool
 
 // Whether u is no node, or an output port.
 fn no_source(file: &[u8], net: &[u16], u: usize) -> bool
-    ghost { Net }
-    requires* { λ N. ⌜ net_of file.now net.now ≡ N ⌝ ∗ ⌜ Circuit file.now net.now ⌝ }
-    ensures* { λ N r. ⌜ r ≡ no_source N u ⌝ }
+    requires circuit { Circuit file.now net.now }
+    ensures { let N = net_of file.now net.now in result ≡ no_source N u }
 {
     if u < node_count(file, net) {
         code_of(file, net, u) == 1
@@ -53,9 +52,9 @@ pub fn or_first(i: usize, n: usize) -> usize
 
 // Whether one of the first n sources of node v is no source.
 fn any_no_source(file: &[u8], net: &[u16], v: usize, n: usize) -> bool
-    ghost { Net }
-    requires* { λ N. opened 𝓤 file.now net.now N ((v < size N) × (n ≤ 3)) }
-    ensures* { λ N r. ⌜ r ≡ any_below n (λ p. no_source N (source N v p)) ⌝ }
+    requires circuit { Circuit file.now net.now }
+    requires asked { let N = net_of file.now net.now in (v < size N) × (n ≤ 3) }
+    ensures { let N = net_of file.now net.now in result ≡ any_below n (λ p. no_source N (source N v p)) }
 {
     if n == 0 {
         return false;
@@ -72,9 +71,9 @@ fn any_no_source(file: &[u8], net: &[u16], v: usize, n: usize) -> bool
 }
 
 fn bad_source(file: &[u8], net: &[u16], v: usize) -> bool
-    ghost { Net }
-    requires* { λ N. opened 𝓤 file.now net.now N (v < size N) }
-    ensures* { λ N r. ⌜ r ≡ bad_source N v ⌝ }
+    requires circuit { Circuit file.now net.now }
+    requires asked { let N = net_of file.now net.now in v < size N }
+    ensures { let N = net_of file.now net.now in result ≡ bad_source N v }
 {
     if table_missing(file, net, v) {
         return true;
@@ -84,9 +83,9 @@ fn bad_source(file: &[u8], net: &[u16], v: usize) -> bool
 
 // The lowest node that check 6 refuses, or the number of nodes: then all that is read is marked, for check 8.
 pub fn lowest_bad_source(file: &[u8], net: &[u16], marks: &mut [u8]) -> usize
-    ghost { Net }
-    requires* { λ N. opened 𝓤 file.now net.now N (Marks N marks.old 0) }
-    ensures* { λ N r. ⌜ (r ≡ lowest (size N) (bad_source N)) × (size N ≤ r → Marks N marks.new (size N)) ⌝ }
+    requires circuit { Circuit file.now net.now }
+    requires asked { let N = net_of file.now net.now in Marks N marks.old 0 }
+    ensures { let N = net_of file.now net.now in (result ≡ lowest (size N) (bad_source N)) × (size N ≤ result → Marks N marks.new (size N)) }
 {
     let n = node_count(file, net);
     let mut v: usize = 0;

@@ -6,14 +6,15 @@ ghost use Rattle.netlist.specs.Checks.{HasTables};
 ghost use Rattle.netlist.specs.Verdict.{reads_table, unread_table};
 ghost use Rattle.circuit.specs.Opened.{opened};
 ghost use Rattle.rules.specs.TableMarks.{Unmarked, TableMarks};
+ghost use Rattle.circuit.specs.Circuit.{net_of, Circuit};
 
 use circuit::{async_rom, clocked_rom, node_count, table_count, table_of};
 
 // The table that node v reads; 16, which no table has for a number, where it is no ROM. Kinds follow no pattern: to look at the table of each is cheaper than a branch.
 fn table_read(file: &[u8], net: &[u16], v: usize) -> usize
-    ghost { Net }
-    requires* { λ N. opened 𝓤 file.now net.now N ((v < size N) × HasTables N) }
-    ensures* { λ N r. ⌜ ((m : ℕ) → m < 16 → eqb r m ≡ reads_table (element_at N v) m) × (r ≤ 16) ⌝ }
+    requires circuit { Circuit file.now net.now }
+    requires asked { let N = net_of file.now net.now in (v < size N) × HasTables N }
+    ensures { let N = net_of file.now net.now in ((m : ℕ) → m < 16 → eqb result m ≡ reads_table (element_at N v) m) × (result ≤ 16) }
 {
     let memory = async_rom(file, net, v) + clocked_rom(file, net, v);
     let table = table_of(file, net, v);
@@ -32,9 +33,9 @@ fn mark(marks: &mut [u8], k: usize) -> usize
 
 // Marks each table that a node reads, and looks no further once all are marked. What is no ROM marks the place behind the tables, which has a mark already.
 pub fn mark_tables(file: &[u8], net: &[u16], marks: &mut [u8])
-    ghost { Net }
-    requires* { λ N. opened 𝓤 file.now net.now N (HasTables N × Unmarked marks.old) }
-    ensures* { λ N _. ⌜ TableMarks N marks.new ⌝ }
+    requires circuit { Circuit file.now net.now }
+    requires asked { let N = net_of file.now net.now in HasTables N × Unmarked marks.old }
+    ensures { let N = net_of file.now net.now in TableMarks N marks.new }
 {
     let n = node_count(file, net);
     let mut left = table_count(file, net);
@@ -51,9 +52,9 @@ pub fn mark_tables(file: &[u8], net: &[u16], marks: &mut [u8])
 
 // The lowest table without a mark, or the number of tables.
 fn lowest_unmarked(file: &[u8], net: &[u16], marks: &[u8]) -> usize
-    ghost { Net }
-    requires* { λ N. opened 𝓤 file.now net.now N (TableMarks N marks.now) }
-    ensures* { λ N r. ⌜ r ≡ lowest (length N.tables) (unread_table N) ⌝ }
+    requires circuit { Circuit file.now net.now }
+    requires asked { let N = net_of file.now net.now in TableMarks N marks.now }
+    ensures { let N = net_of file.now net.now in result ≡ lowest (length N.tables) (unread_table N) }
 {
     let n = table_count(file, net);
     let mut m: usize = 0;
@@ -68,9 +69,9 @@ fn lowest_unmarked(file: &[u8], net: &[u16], marks: &[u8]) -> usize
 
 // The lowest table that check 17 refuses, or the number of tables.
 pub fn lowest_unread_table(file: &[u8], net: &[u16]) -> usize
-    ghost { Net }
-    requires* { λ N. opened 𝓤 file.now net.now N (HasTables N) }
-    ensures* { λ N r. ⌜ r ≡ lowest (length N.tables) (unread_table N) ⌝ }
+    requires circuit { Circuit file.now net.now }
+    requires asked { let N = net_of file.now net.now in HasTables N }
+    ensures { let N = net_of file.now net.now in result ≡ lowest (length N.tables) (unread_table N) }
 {
     let mut marks = [0u8; 17];
     mark_tables(file, net, &mut marks);

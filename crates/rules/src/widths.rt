@@ -41,9 +41,9 @@ fn two_widths(code: usize, w: u8, a: u8, b: u8) -> bool
 
 // The width rule of node v, a ROM of width w whose source has width a.
 fn memory_widths(file: &[u8], net: &[u16], v: usize, w: u8, a: u8) -> bool
-    ghost { Net }
-    requires* { λ N. opened 𝓤 file.now net.now N ((v < size N) × (is_memory (element_at N v) ≡ true)) }
-    ensures* { λ N r. ⌜ ((ws : ℕ → ℕ) → ws 0 ≡ a → r ≡ widths_right N.tables (element_at N v) w ws) ⌝ }
+    requires circuit { Circuit file.now net.now }
+    requires asked { let N = net_of file.now net.now in (v < size N) × (is_memory (element_at N v) ≡ true) }
+    ensures { let N = net_of file.now net.now in ((ws : ℕ → ℕ) → ws 0 ≡ a → result ≡ widths_right N.tables (element_at N v) w ws) }
 {
     let k = table_of(file, net, v);
     if a == address_bits(file, net, k) {
@@ -55,18 +55,17 @@ fn memory_widths(file: &[u8], net: &[u16], v: usize, w: u8, a: u8) -> bool
 
 // The width rule of node v, a part of width w whose source has width a: its number is its lowest bit.
 fn part_widths(file: &[u8], net: &[u16], v: usize, w: u8, a: u8) -> bool
-    ghost { Net }
-    requires* { λ N. opened 𝓤 file.now net.now N ((v < size N) × (18 ≡ code_of (element_at N v))) }
-    ensures* { λ N r. ⌜ ((ws : ℕ → ℕ) → ws 0 ≡ a → r ≡ widths_right N.tables (element_at N v) w ws) ⌝ }
+    requires circuit { Circuit file.now net.now }
+    requires asked { let N = net_of file.now net.now in (v < size N) × (18 ≡ code_of (element_at N v)) }
+    ensures { let N = net_of file.now net.now in ((ws : ℕ → ℕ) → ws 0 ≡ a → result ≡ widths_right N.tables (element_at N v) w ws) }
 {
     number_of(file, net, v) + (w as usize) <= (a as usize)
 }
 
 // The width of node u; past the last 1, as the definitions say.
 fn width_at(file: &[u8], net: &[u16], u: usize) -> u8
-    ghost { Net }
-    requires* { λ N. ⌜ net_of file.now net.now ≡ N ⌝ ∗ ⌜ Circuit file.now net.now ⌝ }
-    ensures* { λ N r. ⌜ r ≡ width_at N u ⌝ }
+    requires circuit { Circuit file.now net.now }
+    ensures { let N = net_of file.now net.now in result ≡ width_at N u }
 {
     if u < node_count(file, net) {
         width_of(file, net, u) as u8
@@ -77,9 +76,9 @@ fn width_at(file: &[u8], net: &[u16], u: usize) -> u8
 
 // The width rule of node v, a gate of width w with two sources or three, the first of width a.
 fn gate_widths(file: &[u8], net: &[u16], v: usize, code: usize, w: u8, a: u8) -> bool
-    ghost { Net }
-    requires* { λ N. opened 𝓤 file.now net.now N ((v < size N) × (code ≡ code_of (element_at N v)) × (9 < code) × (code ≡ 18 → ⊥) × (a ≡ width_at N (source N v 0))) }
-    ensures* { λ N r. ⌜ r ≡ widths_right N.tables (element_at N v) w (λ p. width_at N (source N v p)) ⌝ }
+    requires circuit { Circuit file.now net.now }
+    requires asked { let N = net_of file.now net.now in (v < size N) × (code ≡ code_of (element_at N v)) × (9 < code) × (code ≡ 18 → ⊥) × (a ≡ width_at N (source N v 0)) }
+    ensures { let N = net_of file.now net.now in result ≡ widths_right N.tables (element_at N v) w (λ p. width_at N (source N v p)) }
 {
     let b = width_at(file, net, source_of(file, net, v, 1));
     if code < 17 {
@@ -95,9 +94,9 @@ fn gate_widths(file: &[u8], net: &[u16], v: usize, code: usize, w: u8, a: u8) ->
 
 // The width rule of node v by its code.
 fn width_rule(file: &[u8], net: &[u16], v: usize) -> bool
-    ghost { Net }
-    requires* { λ N. opened 𝓤 file.now net.now N (v < size N) }
-    ensures* { λ N r. ⌜ r ≡ widths_right N.tables (element_at N v) (width_at N v) (λ p. width_at N (source N v p)) ⌝ }
+    requires circuit { Circuit file.now net.now }
+    requires asked { let N = net_of file.now net.now in v < size N }
+    ensures { let N = net_of file.now net.now in result ≡ widths_right N.tables (element_at N v) (width_at N v) (λ p. width_at N (source N v p)) }
 {
     let code = code_of(file, net, v);
     let w = width_of(file, net, v) as u8;
@@ -117,9 +116,9 @@ fn width_rule(file: &[u8], net: &[u16], v: usize) -> bool
 }
 
 fn bad_width(file: &[u8], net: &[u16], v: usize) -> bool
-    ghost { Net }
-    requires* { λ N. opened 𝓤 file.now net.now N (v < size N) }
-    ensures* { λ N r. ⌜ r ≡ bad_width N v ⌝ }
+    requires circuit { Circuit file.now net.now }
+    requires asked { let N = net_of file.now net.now in v < size N }
+    ensures { let N = net_of file.now net.now in result ≡ bad_width N v }
 {
     if width_rule(file, net, v) {
         false
@@ -130,9 +129,8 @@ fn bad_width(file: &[u8], net: &[u16], v: usize) -> bool
 
 // The lowest node that check 7 refuses, or the number of nodes.
 pub fn lowest_bad_width(file: &[u8], net: &[u16]) -> usize
-    ghost { Net }
-    requires* { λ N. ⌜ net_of file.now net.now ≡ N ⌝ ∗ ⌜ Circuit file.now net.now ⌝ }
-    ensures* { λ N r. ⌜ r ≡ lowest (size N) (bad_width N) ⌝ }
+    requires circuit { Circuit file.now net.now }
+    ensures { let N = net_of file.now net.now in result ≡ lowest (size N) (bad_width N) }
 {
     let n = node_count(file, net);
     let mut v: usize = 0;

@@ -1,4 +1,5 @@
 // The reset service and the run of one clock, on the bytes that a host lends. Nothing is written before every check is passed.
+#![tactic(auto)]
 ghost use Rattle.std.specs.Prelude.{◌≡◌, true, ◌*◌, ◌<◌, length};
 ghost use Rattle.netlist.specs.Net.{Net, size, element_at, in_clock};
 ghost use Rattle.netlist.specs.Checks.{WellFormed};
@@ -22,18 +23,18 @@ use words::put_word;
 
 // The word that a register or a clocked ROM holds after reset.
 fn reset_word(file: &[u8], net: &[u16], v: usize) -> u16
-    ghost { Net }
-    requires* { λ N. opened 𝓤 file.now net.now N ((v < size N) × (row_test Row.State N v ≡ true)) }
-    ensures* { λ N r. ⌜ r ≡ holds_first (element_at N v) ⌝ }
+    requires circuit { Circuit file.now net.now }
+    requires asked { let N = net_of file.now net.now in (v < size N) × (row_test Row.State N v ≡ true) }
+    ensures { let N = net_of file.now net.now in result ≡ holds_first (element_at N v) }
 {
     number_of(file, net, v) as u16
 }
 
 // Fills a state with the reset words.
 fn store_reset(file: &[u8], net: &[u16], members: &[u16], state: &mut [u8])
-    ghost { Net }
-    requires* { λ N. opened 𝓤 file.now net.now N ((members.now ≡ row_members Row.State N) × (length state.old ≡ 2 * length members.now)) }
-    ensures* { λ N _. ⌜ state.new ≡ bytes_of (reset_state N) ⌝ }
+    requires circuit { Circuit file.now net.now }
+    requires asked { let N = net_of file.now net.now in (members.now ≡ row_members Row.State N) × (length state.old ≡ 2 * length members.now) }
+    ensures { let N = net_of file.now net.now in state.new ≡ bytes_of (reset_state N) }
 {
     let mut i: usize = 0;
     while i < members.len() {
@@ -44,9 +45,8 @@ fn store_reset(file: &[u8], net: &[u16], members: &[u16], state: &mut [u8])
 
 // The reset service over an opened file: 16 where the state's length does not fit.
 fn reset_opened(file: &[u8], net: &[u16], state: &mut [u8]) -> Answer
-    ghost { Net }
-    requires* { λ N. ⌜ net_of file.now net.now ≡ N ⌝ ∗ ⌜ Circuit file.now net.now ⌝ }
-    ensures* { λ N r. ⌜ (r ≡ (reset_net N state.old).answer) × (state.new ≡ (reset_net N state.old).state) ⌝ }
+    requires circuit { Circuit file.now net.now }
+    ensures { let N = net_of file.now net.now in (result ≡ (reset_net N state.old).answer) × (state.new ≡ (reset_net N state.old).state) }
 {
     let mut members = [0u16; 1024];
     let count = row_members(file, net, Row::State, &mut members);
@@ -62,10 +62,10 @@ fn reset_opened(file: &[u8], net: &[u16], state: &mut [u8]) -> Answer
 
 // Puts the next state in the state's place. The words of the clock stay as they are, so no register sees another's new word.
 fn store_state(file: &[u8], net: &[u16], members: &[u16], words: &[u16], state: &mut [u8])
-    ghost { Net }
-    requires* { λ N. opened 𝓤 file.now net.now N (WellFormed N × (members.now ≡ row_members Row.State N) × (length state.old ≡ 2 * length members.now)
-        × WordsFit N words.now) }
-    ensures* { λ N _. ⌜ state.new ≡ bytes_of (next_state N (words_in state.old) words.now) ⌝ }
+    requires circuit { Circuit file.now net.now }
+    requires asked { let N = net_of file.now net.now in WellFormed N × (members.now ≡ row_members Row.State N) × (length state.old ≡ 2 * length members.now)
+        × WordsFit N words.now }
+    ensures { let N = net_of file.now net.now in state.new ≡ bytes_of (next_state N (words_in state.old) words.now) }
 {
     let mut k: usize = 0;
     while k < members.len() {
@@ -83,11 +83,11 @@ fn run_opened(
     inputs: &[u8],
     outputs: &mut [u8],
 ) -> Answer
-    ghost { Net }
-    requires* { λ N. opened 𝓤 file.now net.now N (WellFormed N × Inside N × Complete in_clock N (order_of net.now)) }
-    ensures* { λ N r. ⌜ (r ≡ (run_net N state.old inputs.now outputs.old).answer)
+    requires circuit { Circuit file.now net.now }
+    requires asked { let N = net_of file.now net.now in WellFormed N × Inside N × Complete in_clock N (order_of net.now) }
+    ensures { let N = net_of file.now net.now in (result ≡ (run_net N state.old inputs.now outputs.old).answer)
         × (state.new ≡ (run_net N state.old inputs.now outputs.old).state)
-        × (outputs.new ≡ (run_net N state.old inputs.now outputs.old).outputs) ⌝ }
+        × (outputs.new ≡ (run_net N state.old inputs.now outputs.old).outputs) }
 {
     let mut words = [0u16; 1024];
     let mut ports = [0u16; 1024];

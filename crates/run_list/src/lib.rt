@@ -1,9 +1,10 @@
 // A list of runs in one call: the file is opened once, every check is passed before anything is written, and then clock follows clock.
+#![tactic(auto)]
 ghost use Rattle.std.specs.Prelude.{◌≡◌, true, ◌+◌, ◌*◌, ◌≤◌, length, eqb};
 ghost use Rattle.lists.specs.Lists.{below, concat_map};
 ghost use Rattle.netlist.specs.Net.{Net, size};
 ghost use Rattle.netlist.specs.Checks.{WellFormed};
-ghost use Rattle.circuit.specs.Circuit.{order_of};
+ghost use Rattle.circuit.specs.Circuit.{order_of, net_of, Circuit};
 ghost use Rattle.circuit.specs.Opened.{opened};
 ghost use Rattle.behaviour.specs.Runs.{input_widths, output_widths, state_widths, fitting};
 ghost use Rattle.behaviour.specs.Service.{bytes_of, words_in};
@@ -49,9 +50,9 @@ fn rows_fit(
     clocks: usize,
     words: &mut [u16],
 ) -> bool
-    ghost { Net }
-    requires* { λ N. opened 𝓤 file.now net.now N (WellFormed N × (size N ≤ length words.old) × (members.now ≡ row_members Row.Inputs N)) }
-    ensures* { λ N r. ⌜ r ≡ fitting_rows clocks (row_widths Row.Inputs N) inputs.now ⌝ }
+    requires circuit { Circuit file.now net.now }
+    requires asked { let N = net_of file.now net.now in WellFormed N × (size N ≤ length words.old) × (members.now ≡ row_members Row.Inputs N) }
+    ensures { let N = net_of file.now net.now in result ≡ fitting_rows clocks (row_widths Row.Inputs N) inputs.now }
 {
     let row = 2 * members.len();
     if !are_rows(inputs.len(), row, clocks) {
@@ -79,9 +80,9 @@ fn list_verdict(
     outputs: &[u8],
     clocks: usize,
 ) -> Verdict
-    ghost { Net }
-    requires* { λ N. opened 𝓤 file.now net.now N (WellFormed N) }
-    ensures* { λ N r. ⌜ r ≡ list_verdict N state.now inputs.now outputs.now clocks ⌝ }
+    requires circuit { Circuit file.now net.now }
+    requires asked { let N = net_of file.now net.now in WellFormed N }
+    ensures { let N = net_of file.now net.now in result ≡ list_verdict N state.now inputs.now outputs.now clocks }
 {
     let mut words = [0u16; 1024];
     let mut members = [0u16; 1024];
@@ -113,12 +114,12 @@ fn step_clocks(
     outputs: &mut [u8],
     clocks: usize,
 )
-    ghost { Net }
-    requires* { λ N. opened 𝓤 file.now net.now N (WellFormed N × Scheduled N schedule.now sizes × (3072 ≤ length words.old)
+    requires circuit { Circuit file.now net.now }
+    requires asked { let N = net_of file.now net.now in WellFormed N × Scheduled N schedule.now sizes × (3072 ≤ length words.old)
         × (fitting_rows clocks (input_widths N) inputs.now ≡ true) × (room_for_rows clocks (output_widths N) outputs.old ≡ true)
-        × (fitting (state_widths N) (state_in sizes words.old) ≡ true)) }
-    ensures* { λ N _. ⌜ (outputs.new ≡ concat_map (shown_at N (state_in sizes words.old) inputs.now) (below clocks))
-        × (state_in sizes words.new ≡ states_from N (state_in sizes words.old) (row_words N inputs.now) clocks) ⌝ }
+        × (fitting (state_widths N) (state_in sizes words.old) ≡ true) }
+    ensures { let N = net_of file.now net.now in (outputs.new ≡ concat_map (shown_at N (state_in sizes words.old) inputs.now) (below clocks))
+        × (state_in sizes words.new ≡ states_from N (state_in sizes words.old) (row_words N inputs.now) clocks) }
 {
     let in_row = 2 * sizes.inputs;
     let out_row = 2 * sizes.outputs;
@@ -166,10 +167,10 @@ fn run_clocks(
     outputs: &mut [u8],
     clocks: usize,
 )
-    ghost { Net }
-    requires* { λ N. opened 𝓤 file.now net.now N (Asked N (order_of net.now) state.old inputs.now outputs.old clocks) }
-    ensures* { λ N _. ⌜ (state.new ≡ bytes_of (states_from N (words_in state.old) (row_words N inputs.now) clocks))
-        × (outputs.new ≡ concat_map (shown_at N (words_in state.old) inputs.now) (below clocks)) ⌝ }
+    requires circuit { Circuit file.now net.now }
+    requires asked { let N = net_of file.now net.now in Asked N (order_of net.now) state.old inputs.now outputs.old clocks }
+    ensures { let N = net_of file.now net.now in (state.new ≡ bytes_of (states_from N (words_in state.old) (row_words N inputs.now) clocks))
+        × (outputs.new ≡ concat_map (shown_at N (words_in state.old) inputs.now) (below clocks)) }
 {
     let mut schedule = [0u16; SCHEDULE];
     let sizes = lay_out(file, net, &mut schedule);
@@ -192,11 +193,11 @@ fn list_opened(
     outputs: &mut [u8],
     clocks: usize,
 ) -> Answer
-    ghost { Net }
-    requires* { λ N. opened 𝓤 file.now net.old N (WellFormed N × Inside N) }
-    ensures* { λ N r. ⌜ (r ≡ (list_net N state.old inputs.now outputs.old clocks).answer)
+    requires circuit { Circuit file.now net.old }
+    requires asked { let N = net_of file.now net.old in WellFormed N × Inside N }
+    ensures { let N = net_of file.now net.old in (result ≡ (list_net N state.old inputs.now outputs.old clocks).answer)
         × (state.new ≡ (list_net N state.old inputs.now outputs.old clocks).state)
-        × (outputs.new ≡ (list_net N state.old inputs.now outputs.old clocks).outputs) ⌝ }
+        × (outputs.new ≡ (list_net N state.old inputs.now outputs.old clocks).outputs) }
 {
     match list_verdict(file, net, state, inputs, outputs, clocks) {
         Verdict::Refuses(number, place) => Answer::Refused(number, place),

@@ -1,4 +1,5 @@
 // The file of a circuit: how long it is, and its writing, field by field at an offset that is carried along.
+#![tactic(auto)]
 ghost use Rattle.std.specs.Prelude.{◌≡◌, ◌++◌, ◌+◌, ◌≤◌, ◌<◌, length, drop};
 ghost use Rattle.lists.specs.Lists.{concat_map};
 ghost use Rattle.netlist.specs.Net.{Net, size, node_at};
@@ -15,9 +16,8 @@ use writer::{copy_table, put_end, put_head, put_node, table_length};
 
 // How many bytes the fields of the tables take.
 fn tables_length(file: &[u8], net: &[u16]) -> usize
-    ghost { Net }
-    requires* { λ N. ⌜ net_of file.now net.now ≡ N ⌝ ∗ ⌜ Circuit file.now net.now ⌝ }
-    ensures* { λ N r. ⌜ (r ≡ length (concat_map table_bytes N.tables)) × (r ≤ 1048608) ⌝ }
+    requires circuit { Circuit file.now net.now }
+    ensures { let N = net_of file.now net.now in (result ≡ length (concat_map table_bytes N.tables)) × (result ≤ 1048608) }
 {
     let n = table_count(file, net);
     let mut sum: usize = 0;
@@ -47,18 +47,17 @@ fn own_length(code: usize) -> usize
 
 // How long the field of node v is.
 fn node_length(file: &[u8], net: &[u16], v: usize) -> usize
-    ghost { Net }
-    requires* { λ N. opened 𝓤 file.now net.now N (v < size N) }
-    ensures* { λ N r. ⌜ (r ≡ length (node_bytes (node_at N v))) × (r ≤ 12) ⌝ }
+    requires circuit { Circuit file.now net.now }
+    requires asked { let N = net_of file.now net.now in v < size N }
+    ensures { let N = net_of file.now net.now in (result ≡ length (node_bytes (node_at N v))) × (result ≤ 12) }
 {
     5 + own_length(code_of(file, net, v)) + 2 * source_count(file, net, v)
 }
 
 // How many bytes the fields of the nodes take.
 fn nodes_length(file: &[u8], net: &[u16]) -> usize
-    ghost { Net }
-    requires* { λ N. ⌜ net_of file.now net.now ≡ N ⌝ ∗ ⌜ Circuit file.now net.now ⌝ }
-    ensures* { λ N r. ⌜ (r ≡ length (concat_map node_bytes N.nodes)) × (r ≤ 12288) ⌝ }
+    requires circuit { Circuit file.now net.now }
+    ensures { let N = net_of file.now net.now in (result ≡ length (concat_map node_bytes N.nodes)) × (result ≤ 12288) }
 {
     let n = node_count(file, net);
     let mut sum: usize = 0;
@@ -72,27 +71,25 @@ fn nodes_length(file: &[u8], net: &[u16]) -> usize
 
 // How long the file is.
 pub fn circuit_length(file: &[u8], net: &[u16]) -> usize
-    ghost { Net }
-    requires* { λ N. ⌜ net_of file.now net.now ≡ N ⌝ ∗ ⌜ Circuit file.now net.now ⌝ }
-    ensures* { λ N r. ⌜ r ≡ length (encode N) ⌝ }
+    requires circuit { Circuit file.now net.now }
+    ensures { let N = net_of file.now net.now in result ≡ length (encode N) }
 {
     7 + tables_length(file, net) + nodes_length(file, net)
 }
 
 // How many fields the file has: the head, the tables, the nodes, the end.
 fn field_count(file: &[u8], net: &[u16]) -> usize
-    ghost { Net }
-    requires* { λ N. ⌜ net_of file.now net.now ≡ N ⌝ ∗ ⌜ Circuit file.now net.now ⌝ }
-    ensures* { λ N r. ⌜ (r ≡ length (fields_of N)) × (r ≤ 1042) ⌝ }
+    requires circuit { Circuit file.now net.now }
+    ensures { let N = net_of file.now net.now in (result ≡ length (fields_of N)) × (result ≤ 1042) }
 {
     2 + table_count(file, net) + node_count(file, net)
 }
 
 // Writes field k at the offset that is carried along, and gives the next one: before each field it is the sum of the whole lengths of the fields before.
 fn put_field(file: &[u8], net: &[u16], k: usize, out: &mut [u8], at: usize) -> usize
-    ghost { Net }
-    requires* { λ N. opened 𝓤 file.now net.now N ((k < length (fields_of N)) × (at ≡ offset_of N k) × (length (encode N) ≤ length out.old)) }
-    ensures* { λ N r. ⌜ Puts out.old at (field_at N k) r out.new × (r ≡ offset_of N (k + 1)) ⌝ }
+    requires circuit { Circuit file.now net.now }
+    requires asked { let N = net_of file.now net.now in (k < length (fields_of N)) × (at ≡ offset_of N k) × (length (encode N) ≤ length out.old) }
+    ensures { let N = net_of file.now net.now in Puts out.old at (field_at N k) result out.new × (result ≡ offset_of N (k + 1)) }
 {
     if k == 0 {
         return put_head(out, at);
@@ -110,9 +107,9 @@ fn put_field(file: &[u8], net: &[u16], k: usize, out: &mut [u8], at: usize) -> u
 
 // Writes the file at the front of the output, where the bytes past it stay, and gives the offset behind the end field, which is its length.
 pub fn write_circuit(file: &[u8], net: &[u16], out: &mut [u8]) -> usize
-    ghost { Net }
-    requires* { λ N. opened 𝓤 file.now net.now N (length (encode N) ≤ length out.old) }
-    ensures* { λ N r. ⌜ (r ≡ length (encode N)) × (out.new ≡ encode N ++ drop (length (encode N)) out.old) ⌝ }
+    requires circuit { Circuit file.now net.now }
+    requires asked { let N = net_of file.now net.now in length (encode N) ≤ length out.old }
+    ensures { let N = net_of file.now net.now in (result ≡ length (encode N)) × (out.new ≡ encode N ++ drop (length (encode N)) out.old) }
 {
     let fields = field_count(file, net);
     let mut at: usize = 0;

@@ -1,11 +1,12 @@
 // The schedule of a circuit: the work of a clock laid out in lines, so that whoever steps it reads line by line.
+#![tactic(auto)]
 mod lines;
 mod listing;
 
 ghost use Rattle.std.specs.Prelude.{◌≡◌, ◌+◌, ◌*◌, ◌<◌, ◌≤◌, length};
 ghost use Rattle.netlist.specs.Net.{Net, in_clock};
 ghost use Rattle.netlist.specs.Checks.{WellFormed};
-ghost use Rattle.circuit.specs.Circuit.{order_of};
+ghost use Rattle.circuit.specs.Circuit.{order_of, net_of, Circuit};
 ghost use Rattle.circuit.specs.Opened.{opened};
 ghost use Rattle.circuit.specs.Order.{Complete};
 ghost use Rattle.evaluate.specs.Clock.{Inside};
@@ -52,9 +53,9 @@ pub fn part_of(schedule: &[u16], i: usize, j: usize) -> usize
 
 // Lays the work of a clock out: once for a netlist, however many clocks it is stepped.
 pub fn lay_out(file: &[u8], net: &[u16], schedule: &mut [u16]) -> Sizes
-    ghost { Net }
-    requires* { λ N. opened 𝓤 file.now net.now N (WellFormed N × Inside N × Complete in_clock N (order_of net.now) × (schedule_words ≤ length schedule.old)) }
-    ensures* { λ N r. ⌜ Scheduled N schedule.new r ⌝ }
+    requires circuit { Circuit file.now net.now }
+    requires asked { let N = net_of file.now net.now in WellFormed N × Inside N × Complete in_clock N (order_of net.now) × (schedule_words ≤ length schedule.old) }
+    ensures { let N = net_of file.now net.now in Scheduled N schedule.new result }
 {
     let mut nodes = [0u16; 3072];
     let mut places = [0u16; 1024];

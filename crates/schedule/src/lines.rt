@@ -7,6 +7,7 @@ ghost use Rattle.evaluate.specs.Clock.{Inside};
 ghost use Rattle.schedule.specs.Lines.{schedule_words, asked_by, Holds};
 ghost use Rattle.schedule.specs.Laid.{Laid, RunsOn, LinePut, LaidFrom};
 ghost use Rattle.schedule.specs.Ports.{PortsPut};
+ghost use Rattle.circuit.specs.Circuit.{net_of, Circuit};
 
 use super::{CODE, OUTPUTS, RUN_END, Sizes, part_of};
 use areas::{copy, read_at};
@@ -14,18 +15,18 @@ use circuit::{code_of, number_of, source_of, table_of, wide, width_of};
 
 // The place of source p of node v.
 fn source_place(file: &[u8], net: &[u16], places: &[u16], v: usize, p: usize) -> u16
-    ghost { Net }
-    requires* { λ N. opened 𝓤 file.now net.now N (Inside N × (size N ≤ length places.now) × (v < size N) × (p < 3)) }
-    ensures* { λ N r. ⌜ r ≡ get_or places.now (source N v p) 0 ⌝ }
+    requires circuit { Circuit file.now net.now }
+    requires asked { let N = net_of file.now net.now in Inside N × (size N ≤ length places.now) × (v < size N) × (p < 3) }
+    ensures { let N = net_of file.now net.now in result ≡ get_or places.now (source N v p) 0 }
 {
     read_at(places, source_of(file, net, v, p))
 }
 
 // The width that node v asks for: a join's is that of its low part.
 fn asked_width(file: &[u8], net: &[u16], v: usize, code: usize) -> usize
-    ghost { Net }
-    requires* { λ N. opened 𝓤 file.now net.now N (Inside N × (v < size N) × (code ≡ code_of (element_at N v))) }
-    ensures* { λ N r. ⌜ (r ≡ asked_by (element_at N v) (width_at N v) (width_at N (source N v 1))) × (r < 256) ⌝ }
+    requires circuit { Circuit file.now net.now }
+    requires asked { let N = net_of file.now net.now in Inside N × (v < size N) × (code ≡ code_of (element_at N v)) }
+    ensures { let N = net_of file.now net.now in (result ≡ asked_by (element_at N v) (width_at N v) (width_at N (source N v 1))) × (result < 256) }
 {
     if code == 19 {
         width_of(file, net, source_of(file, net, v, 1))
@@ -36,9 +37,9 @@ fn asked_width(file: &[u8], net: &[u16], v: usize, code: usize) -> usize
 
 // The table of node v where it is a memory, else the number that it holds.
 fn held_number(file: &[u8], net: &[u16], v: usize, code: usize) -> usize
-    ghost { Net }
-    requires* { λ N. opened 𝓤 file.now net.now N ((v < size N) × (code ≡ code_of (element_at N v))) }
-    ensures* { λ N r. ⌜ Holds (element_at N v) r × (r ≤ 65535) ⌝ }
+    requires circuit { Circuit file.now net.now }
+    requires asked { let N = net_of file.now net.now in (v < size N) × (code ≡ code_of (element_at N v)) }
+    ensures { let N = net_of file.now net.now in Holds (element_at N v) result × (result ≤ 65535) }
 {
     match code {
         3 | 4 => table_of(file, net, v),
@@ -72,9 +73,9 @@ fn line_of(
     i: usize,
     v: usize,
 ) -> [u16; 8]
-    ghost { Net }
-    requires* { λ N. opened 𝓤 file.now net.now N (Inside N × (size N ≤ length places.now) × (v < size N) × (lines ≤ 2048) × (i < lines) × (schedule_words ≤ length schedule.now)) }
-    ensures* { λ N r. ⌜ Laid N places.now (λ k. get_or r k 0) v × RunsOn schedule.now lines (i + 1) (get_or r 0 0) (get_or r 1 0) ⌝ }
+    requires circuit { Circuit file.now net.now }
+    requires asked { let N = net_of file.now net.now in Inside N × (size N ≤ length places.now) × (v < size N) × (lines ≤ 2048) × (i < lines) × (schedule_words ≤ length schedule.now) }
+    ensures { let N = net_of file.now net.now in Laid N places.now (λ k. get_or result k 0) v × RunsOn schedule.now lines (i + 1) (get_or result 0 0) (get_or result 1 0) }
 {
     let code = code_of(file, net, v);
     [
@@ -99,9 +100,9 @@ fn put_line(
     i: usize,
     v: usize,
 )
-    ghost { Net }
-    requires* { λ N. opened 𝓤 file.now net.now N (Inside N × (size N ≤ length places.now) × (v < size N) × (lines ≤ 2048) × (i < lines) × (schedule_words ≤ length schedule.old)) }
-    ensures* { λ N _. ⌜ LinePut N places.now schedule.old schedule.new lines i v ⌝ }
+    requires circuit { Circuit file.now net.now }
+    requires asked { let N = net_of file.now net.now in Inside N × (size N ≤ length places.now) × (v < size N) × (lines ≤ 2048) × (i < lines) × (schedule_words ≤ length schedule.old) }
+    ensures { let N = net_of file.now net.now in LinePut N places.now schedule.old schedule.new lines i v }
 {
     let line = line_of(file, net, places, schedule, lines, i, v);
     let at = 8 * i;
@@ -118,10 +119,10 @@ pub fn put_lines(
     places: &[u16],
     schedule: &mut [u16],
 )
-    ghost { Net }
-    requires* { λ N. opened 𝓤 file.now net.now N (Inside N × (size N ≤ length places.now) × (lines ≤ 2048) × (lines ≤ length nodes.now)
-        × ((i : ℕ) → i < lines → get_or nodes.now i 0 < size N) × (schedule_words ≤ length schedule.old)) }
-    ensures* { λ N _. ⌜ LaidFrom N nodes.now places.now schedule.new lines 0 ⌝ }
+    requires circuit { Circuit file.now net.now }
+    requires asked { let N = net_of file.now net.now in Inside N × (size N ≤ length places.now) × (lines ≤ 2048) × (lines ≤ length nodes.now)
+        × ((i : ℕ) → i < lines → get_or nodes.now i 0 < size N) × (schedule_words ≤ length schedule.old) }
+    ensures { let N = net_of file.now net.now in LaidFrom N nodes.now places.now schedule.new lines 0 }
 {
     let mut i = lines;
     while 0 < i {
@@ -139,10 +140,10 @@ pub fn put_ports(
     places: &[u16],
     schedule: &mut [u16],
 )
-    ghost { Net }
-    requires* { λ N. opened 𝓤 file.now net.now N (Inside N × (size N ≤ length places.now) × (sizes.outputs ≤ 1024) × (sizes.lines + sizes.outputs ≤ length nodes.now)
-        × ((j : ℕ) → j < sizes.outputs → get_or nodes.now (sizes.lines + j) 0 < size N) × (schedule_words ≤ length schedule.old)) }
-    ensures* { λ N _. ⌜ PortsPut N nodes.now places.now schedule.old schedule.new sizes.lines sizes.outputs ⌝ }
+    requires circuit { Circuit file.now net.now }
+    requires asked { let N = net_of file.now net.now in Inside N × (size N ≤ length places.now) × (sizes.outputs ≤ 1024) × (sizes.lines + sizes.outputs ≤ length nodes.now)
+        × ((j : ℕ) → j < sizes.outputs → get_or nodes.now (sizes.lines + j) 0 < size N) × (schedule_words ≤ length schedule.old) }
+    ensures { let N = net_of file.now net.now in PortsPut N nodes.now places.now schedule.old schedule.new sizes.lines sizes.outputs }
 {
     let from = sizes.lines;
     let count = sizes.outputs;

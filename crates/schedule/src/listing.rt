@@ -4,7 +4,7 @@ ghost use Rattle.lists.specs.Lists.{one};
 ghost use Rattle.netlist.specs.declared.Element.{Element};
 ghost use Rattle.netlist.specs.Net.{Net, size, in_clock};
 ghost use Rattle.circuit.specs.Code.{code_of};
-ghost use Rattle.circuit.specs.Circuit.{order_of};
+ghost use Rattle.circuit.specs.Circuit.{order_of, net_of, Circuit};
 ghost use Rattle.circuit.specs.Opened.{opened};
 ghost use Rattle.circuit.specs.Order.{Complete};
 ghost use Rattle.evaluate.specs.Rows.{row_test};
@@ -27,18 +27,18 @@ fn inner_code(code: usize) -> usize
 
 // Adds the members of a row from a place on; gives the place behind them.
 fn add_row(file: &[u8], net: &[u16], row: Row, nodes: &mut [u16], from: usize) -> usize
-    ghost { Net }
-    requires* { λ N. opened 𝓤 file.now net.now N (from + 1024 ≤ length nodes.old) }
-    ensures* { λ N r. ⌜ Added nodes.old nodes.new from (row_test row N) (λ v. v) (size N) r ⌝ }
+    requires circuit { Circuit file.now net.now }
+    requires asked { from + 1024 ≤ length nodes.old }
+    ensures { let N = net_of file.now net.now in Added nodes.old nodes.new from (row_test row N) (λ v. v) (size N) result }
 {
     from + row_members(file, net, row, &mut nodes[from..])
 }
 
 // Adds the inner nodes in the circuit's order. Each is put, and the next one over it unless it counts, as `row_members` does.
 fn add_inner(file: &[u8], net: &[u16], nodes: &mut [u16], from: usize) -> usize
-    ghost { Net }
-    requires* { λ N. opened 𝓤 file.now net.now N (Complete in_clock N (order_of net.now) × (from + 1024 ≤ length nodes.old)) }
-    ensures* { λ N r. ⌜ Added nodes.old nodes.new from (inner_at N (order_of net.now)) (λ t. get_or (order_of net.now) t 0) (size N) r ⌝ }
+    requires circuit { Circuit file.now net.now }
+    requires asked { let N = net_of file.now net.now in Complete in_clock N (order_of net.now) × (from + 1024 ≤ length nodes.old) }
+    ensures { let N = net_of file.now net.now in Added nodes.old nodes.new from (inner_at N (order_of net.now)) (λ t. get_or (order_of net.now) t 0) (size N) result }
 {
     let n = node_count(file, net);
     let mut end = from;
@@ -54,9 +54,9 @@ fn add_inner(file: &[u8], net: &[u16], nodes: &mut [u16], from: usize) -> usize
 
 // The nodes of all lines, and behind them the output ports, into a work area.
 pub fn list_nodes(file: &[u8], net: &[u16], nodes: &mut [u16]) -> Sizes
-    ghost { Net }
-    requires* { λ N. opened 𝓤 file.now net.now N (Complete in_clock N (order_of net.now) × (3072 ≤ length nodes.old)) }
-    ensures* { λ N r. ⌜ Listed N (order_of net.now) nodes.new r ⌝ }
+    requires circuit { Circuit file.now net.now }
+    requires asked { let N = net_of file.now net.now in Complete in_clock N (order_of net.now) × (3072 ≤ length nodes.old) }
+    ensures { let N = net_of file.now net.now in Listed N (order_of net.now) nodes.new result }
 {
     let inputs = add_row(file, net, Row::Inputs, nodes, 0);
     let front = add_row(file, net, Row::State, nodes, inputs);

@@ -7,6 +7,7 @@ ghost use Rattle.retiming.specs.Gates.{steers_of, chain_length};
 ghost use Rattle.retiming.specs.Modes.{mode_timing};
 ghost use Rattle.wiring.specs.Wiring.{Timed};
 ghost use Rattle.steering.specs.ChainLaws.{shown_from, steers_from};
+ghost use Rattle.circuit.specs.Circuit.{net_of, Circuit};
 
 use areas::read_at;
 use circuit::{clocked_rom, node_count, source_of, wide};
@@ -16,9 +17,9 @@ use wiring::{minus, origin_of, wires_to};
 
 // How many constants and gates stand on the wire from s to x: none where its source is not late.
 pub fn shown_on(file: &[u8], net: &[u16], mode: Mode, timing: &[u16], x: usize, s: usize) -> usize
-    ghost { Net }
-    requires* { λ N. opened 𝓤 file.now net.now N (Timed N (mode_timing mode N) timing.now × (length timing.now ≡ 3072) × (x < size N) × (s < size N)) }
-    ensures* { λ N r. ⌜ (r ≡ shown_from N (mode_timing mode N) x s) × (r ≤ 1025) ⌝ }
+    requires circuit { Circuit file.now net.now }
+    requires asked { let N = net_of file.now net.now in Timed N (mode_timing mode N) timing.now × (length timing.now ≡ 3072) × (x < size N) × (s < size N) }
+    ensures { let N = net_of file.now net.now in (result ≡ shown_from N (mode_timing mode N) x s) × (result ≤ 1025) }
 {
     let u = wide(read_at(timing, ROOTS + s));
     let origin = origin_of(file, net, mode);
@@ -31,9 +32,9 @@ pub fn shown_on(file: &[u8], net: &[u16], mode: Mode, timing: &[u16], x: usize, 
 
 // How many registers of the chain the wire from s to x needs.
 fn steers_on(file: &[u8], net: &[u16], mode: Mode, timing: &[u16], x: usize, s: usize) -> usize
-    ghost { Net }
-    requires* { λ N. opened 𝓤 file.now net.now N (Timed N (mode_timing mode N) timing.now × (length timing.now ≡ 3072) × (x < size N) × (s < size N)) }
-    ensures* { λ N r. ⌜ (r ≡ steers_from N (mode_timing mode N) x s) × (r ≤ 2051) ⌝ }
+    requires circuit { Circuit file.now net.now }
+    requires asked { let N = net_of file.now net.now in Timed N (mode_timing mode N) timing.now × (length timing.now ≡ 3072) × (x < size N) × (s < size N) }
+    ensures { let N = net_of file.now net.now in (result ≡ steers_from N (mode_timing mode N) x s) × (result ≤ 2051) }
 {
     let shown = shown_on(file, net, mode, timing, x, s);
     if shown == 0 {
@@ -50,9 +51,9 @@ fn larger(a: usize, b: usize) -> usize
 
 // How many the wires of x need.
 fn steers_of(file: &[u8], net: &[u16], mode: Mode, timing: &[u16], x: usize) -> usize
-    ghost { Net }
-    requires* { λ N. opened 𝓤 file.now net.now N (Timed N (mode_timing mode N) timing.now × (length timing.now ≡ 3072) × (x < size N)) }
-    ensures* { λ N r. ⌜ (r ≡ steers_of N (mode_timing mode N) (zero_word N) x) × (r ≤ 2051) ⌝ }
+    requires circuit { Circuit file.now net.now }
+    requires asked { let N = net_of file.now net.now in Timed N (mode_timing mode N) timing.now × (length timing.now ≡ 3072) × (x < size N) }
+    ensures { let N = net_of file.now net.now in (result ≡ steers_of N (mode_timing mode N) (zero_word N) x) × (result ≤ 2051) }
 {
     let n = wires_to(file, net, mode, timing, x);
     let mut most: usize = 0;
@@ -67,9 +68,9 @@ fn steers_of(file: &[u8], net: &[u16], mode: Mode, timing: &[u16], x: usize) -> 
 
 // How many all wires need.
 pub fn chain_length(file: &[u8], net: &[u16], mode: Mode, timing: &[u16]) -> usize
-    ghost { Net }
-    requires* { λ N. opened 𝓤 file.now net.now N (Timed N (mode_timing mode N) timing.now × (length timing.now ≡ 3072)) }
-    ensures* { λ N r. ⌜ (r ≡ chain_length N (mode_timing mode N) (zero_word N)) × (r ≤ 2051) ⌝ }
+    requires circuit { Circuit file.now net.now }
+    requires asked { let N = net_of file.now net.now in Timed N (mode_timing mode N) timing.now × (length timing.now ≡ 3072) }
+    ensures { let N = net_of file.now net.now in (result ≡ chain_length N (mode_timing mode N) (zero_word N)) × (result ≤ 2051) }
 {
     let n = node_count(file, net);
     let mut most: usize = 0;

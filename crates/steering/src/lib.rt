@@ -1,4 +1,5 @@
 // The gates of a late start: document 02, T-05. On a wire from a late source they show its reader the old reset words, and one chain of registers steers them all.
+#![tactic(auto)]
 mod chain;
 mod pairs;
 
@@ -9,6 +10,7 @@ ghost use Rattle.retiming.specs.Modes.{mode_timing};
 ghost use Rattle.wiring.specs.Wiring.{Timed};
 ghost use Rattle.plan.specs.Plan.{PlanLaid};
 ghost use Rattle.steering.specs.Gated.{Steering};
+ghost use Rattle.circuit.specs.Circuit.{net_of, Circuit};
 
 use chain::chain_length;
 use pairs::gate_entries;
@@ -36,10 +38,10 @@ fn chain_nodes(chain: usize) -> usize
 
 // Adds the constant, the chain, and the gates with their constants. Where there are more than 1,024 nodes nothing is said of the area.
 pub fn add_gates(file: &[u8], net: &[u16], timing: &[u16], made: Plan, plan: &mut [u16]) -> Steered
-    ghost { Net }
-    requires* { λ N. opened 𝓤 file.now net.now N (Timed N (mode_timing made.mode N) timing.now × (length timing.now ≡ 3072) × (length plan.old ≡ 7168)
-        × PlanLaid N (mode_timing made.mode N) plan.old made.entries made.total) }
-    ensures* { λ N r. ⌜ Steering N (mode_timing made.mode N) plan.new r.entries r.wired r.chain r.total × (r.mode ≡ made.mode) ⌝ }
+    requires circuit { Circuit file.now net.now }
+    requires asked { let N = net_of file.now net.now in Timed N (mode_timing made.mode N) timing.now × (length timing.now ≡ 3072) × (length plan.old ≡ 7168)
+        × PlanLaid N (mode_timing made.mode N) plan.old made.entries made.total }
+    ensures { let N = net_of file.now net.now in Steering N (mode_timing made.mode N) plan.new result.entries result.wired result.chain result.total × (result.mode ≡ made.mode) }
 {
     let mode = made.mode;
     let entries = made.entries;

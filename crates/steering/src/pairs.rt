@@ -10,6 +10,7 @@ ghost use Rattle.plan.specs.Areas.{owners_in, words_in, late_in, sources_in};
 ghost use Rattle.plan.specs.Registers.{entry_count};
 ghost use Rattle.steering.specs.GatesTo.{gate_after, PutsPairs, GatesTo, AllGated};
 ghost use Rattle.steering.specs.PairsPut.{two_put_of, gate_put};
+ghost use Rattle.circuit.specs.Circuit.{net_of, Circuit};
 
 use super::Steered;
 use super::chain::shown_on;
@@ -83,13 +84,13 @@ fn gate_wire(
     to: Operand,
     plan: &mut [u16],
 ) -> usize
-    ghost { Net }
-    requires* { λ N. opened 𝓤 file.now net.now N (Timed N (mode_timing made.mode N) timing.now × (length timing.now ≡ 3072) × (length plan.old ≡ 7168)
+    requires circuit { Circuit file.now net.now }
+    requires asked { let N = net_of file.now net.now in Timed N (mode_timing made.mode N) timing.now × (length timing.now ≡ 3072) × (length plan.old ≡ 7168)
         × (made.entries ≡ entry_count N (mode_timing made.mode N)) × (made.wired ≡ length (places N (mode_timing made.mode N) (zero_word N))) × (made.total ≤ 1024)
         × (to.e < made.entries) × (to.p < operands (element_at N (get_or (owners_in plan.old) to.e 0)))
-        × GatesTo N (mode_timing made.mode N) (owners_in plan.old) (words_in plan.old) (late_in plan.old) (sources_in plan.old) (3 * to.e + to.p) made.total) }
-    ensures* { λ N r. ⌜ GatesTo N (mode_timing made.mode N) (owners_in plan.new) (words_in plan.new) (late_in plan.new) (sources_in plan.new)
-        (3 * to.e + to.p + 1) r × (r ≤ 3074) ⌝ }
+        × GatesTo N (mode_timing made.mode N) (owners_in plan.old) (words_in plan.old) (late_in plan.old) (sources_in plan.old) (3 * to.e + to.p) made.total }
+    ensures { let N = net_of file.now net.now in GatesTo N (mode_timing made.mode N) (owners_in plan.new) (words_in plan.new) (late_in plan.new) (sources_in plan.new)
+        (3 * to.e + to.p + 1) result × (result ≤ 3074) }
 {
     let mode = made.mode;
     let wired = made.wired;
@@ -128,14 +129,14 @@ fn gate_entry(
     e: usize,
     plan: &mut [u16],
 ) -> usize
-    ghost { Net }
-    requires* { λ N. opened 𝓤 file.now net.now N (Timed N (mode_timing made.mode N) timing.now × (length timing.now ≡ 3072) × (length plan.old ≡ 7168)
+    requires circuit { Circuit file.now net.now }
+    requires asked { let N = net_of file.now net.now in Timed N (mode_timing made.mode N) timing.now × (length timing.now ≡ 3072) × (length plan.old ≡ 7168)
         × (made.entries ≡ entry_count N (mode_timing made.mode N)) × (made.wired ≡ length (places N (mode_timing made.mode N) (zero_word N))) × (made.total ≤ 1024)
         × (e < made.entries)
-        × GatesTo N (mode_timing made.mode N) (owners_in plan.old) (words_in plan.old) (late_in plan.old) (sources_in plan.old) (3 * e) made.total) }
-    ensures* { λ N r. ⌜ (r ≤ 1024 → GatesTo N (mode_timing made.mode N) (owners_in plan.new) (words_in plan.new) (late_in plan.new) (sources_in plan.new)
-        (3 * e + 3) r)
-        × (1024 < r → AllGated N (mode_timing made.mode N) (owners_in plan.new) (words_in plan.new) (late_in plan.new) (sources_in plan.new) r) ⌝ }
+        × GatesTo N (mode_timing made.mode N) (owners_in plan.old) (words_in plan.old) (late_in plan.old) (sources_in plan.old) (3 * e) made.total }
+    ensures { let N = net_of file.now net.now in (result ≤ 1024 → GatesTo N (mode_timing made.mode N) (owners_in plan.new) (words_in plan.new) (late_in plan.new) (sources_in plan.new)
+        (3 * e + 3) result)
+        × (1024 < result → AllGated N (mode_timing made.mode N) (owners_in plan.new) (words_in plan.new) (late_in plan.new) (sources_in plan.new) result) }
 {
     let mode = made.mode;
     let entries = made.entries;
@@ -171,11 +172,11 @@ pub fn gate_entries(
     made: Steered,
     plan: &mut [u16],
 ) -> usize
-    ghost { Net }
-    requires* { λ N. opened 𝓤 file.now net.now N (Timed N (mode_timing made.mode N) timing.now × (length timing.now ≡ 3072) × (length plan.old ≡ 7168)
+    requires circuit { Circuit file.now net.now }
+    requires asked { let N = net_of file.now net.now in Timed N (mode_timing made.mode N) timing.now × (length timing.now ≡ 3072) × (length plan.old ≡ 7168)
         × (made.entries ≡ entry_count N (mode_timing made.mode N)) × (made.wired ≡ length (places N (mode_timing made.mode N) (zero_word N)))
-        × GatesTo N (mode_timing made.mode N) (owners_in plan.old) (words_in plan.old) (late_in plan.old) (sources_in plan.old) 0 made.total) }
-    ensures* { λ N r. ⌜ AllGated N (mode_timing made.mode N) (owners_in plan.new) (words_in plan.new) (late_in plan.new) (sources_in plan.new) r ⌝ }
+        × GatesTo N (mode_timing made.mode N) (owners_in plan.old) (words_in plan.old) (late_in plan.old) (sources_in plan.old) 0 made.total }
+    ensures { let N = net_of file.now net.now in AllGated N (mode_timing made.mode N) (owners_in plan.new) (words_in plan.new) (late_in plan.new) (sources_in plan.new) result }
 {
     let mode = made.mode;
     let entries = made.entries;

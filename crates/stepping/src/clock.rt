@@ -12,6 +12,7 @@ ghost use Rattle.stepping.specs.Step.{line_next, FitTo};
 ghost use Rattle.stepping.specs.Putting.{Put};
 ghost use Rattle.stepping.specs.Looking.{Read};
 ghost use Rattle.stepping.specs.Clock.{state_in};
+ghost use Rattle.circuit.specs.Circuit.{net_of, Circuit};
 
 use super::step_lines;
 use circuit::{table_word, wide};
@@ -55,10 +56,10 @@ fn put_read(schedule: &[u16], sizes: Sizes, words: &mut [u16])
 // Puts the table's word where a clocked ROM has read an address. What a register has read is what it holds next: runs of registers are passed by, since a branch
 // for each of them would be foreseen wrong where a ROM stands among them.
 fn look_up(file: &[u8], net: &[u16], schedule: &[u16], sizes: Sizes, words: &mut [u16])
-    ghost { Net }
-    requires* { λ N. opened 𝓤 file.now net.now N (WellFormed N × Scheduled N schedule.now sizes × (3072 ≤ length words.old)
-        × FitTo N schedule.now words.old sizes.lines × Read schedule.now sizes words.old) }
-    ensures* { λ N _. ⌜ Put 2048 sizes.held (λ j. line_next N schedule.now words.old (sizes.inputs + j)) words.old words.new ⌝ }
+    requires circuit { Circuit file.now net.now }
+    requires asked { let N = net_of file.now net.now in WellFormed N × Scheduled N schedule.now sizes × (3072 ≤ length words.old)
+        × FitTo N schedule.now words.old sizes.lines × Read schedule.now sizes words.old }
+    ensures { let N = net_of file.now net.now in Put 2048 sizes.held (λ j. line_next N schedule.now words.old (sizes.inputs + j)) words.old words.new }
 {
     let from = sizes.inputs;
     let held = sizes.held;
@@ -77,10 +78,10 @@ fn look_up(file: &[u8], net: &[u16], schedule: &[u16], sizes: Sizes, words: &mut
 
 // Puts the next state behind the places.
 fn put_next(file: &[u8], net: &[u16], schedule: &[u16], sizes: Sizes, words: &mut [u16])
-    ghost { Net }
-    requires* { λ N. opened 𝓤 file.now net.now N (WellFormed N × Scheduled N schedule.now sizes × (3072 ≤ length words.old)
-        × FitTo N schedule.now words.old sizes.lines) }
-    ensures* { λ N _. ⌜ Put 2048 sizes.held (λ j. line_next N schedule.now words.old (sizes.inputs + j)) words.old words.new ⌝ }
+    requires circuit { Circuit file.now net.now }
+    requires asked { let N = net_of file.now net.now in WellFormed N × Scheduled N schedule.now sizes × (3072 ≤ length words.old)
+        × FitTo N schedule.now words.old sizes.lines }
+    ensures { let N = net_of file.now net.now in Put 2048 sizes.held (λ j. line_next N schedule.now words.old (sizes.inputs + j)) words.old words.new }
 {
     put_read(schedule, sizes, words);
     look_up(file, net, schedule, sizes, words);
@@ -110,12 +111,12 @@ pub fn clock(
     words: &mut [u16],
     outputs: &mut [u8],
 )
-    ghost { Net }
-    requires* { λ N. opened 𝓤 file.now net.now N (WellFormed N × Scheduled N schedule.now sizes × (3072 ≤ length words.old)
+    requires circuit { Circuit file.now net.now }
+    requires asked { let N = net_of file.now net.now in WellFormed N × Scheduled N schedule.now sizes × (3072 ≤ length words.old)
         × (length inputs.now ≡ 2 * sizes.inputs) × (length outputs.old ≡ 2 * sizes.outputs)
-        × (fitting (input_widths N) (words_in inputs.now) ≡ true) × (fitting (state_widths N) (state_in sizes words.old) ≡ true)) }
-    ensures* { λ N _. ⌜ (outputs.new ≡ bytes_of (run_outputs N (state_in sizes words.old) (words_in inputs.now)))
-        × (state_in sizes words.new ≡ run_state N (state_in sizes words.old) (words_in inputs.now)) ⌝ }
+        × (fitting (input_widths N) (words_in inputs.now) ≡ true) × (fitting (state_widths N) (state_in sizes words.old) ≡ true) }
+    ensures { let N = net_of file.now net.now in (outputs.new ≡ bytes_of (run_outputs N (state_in sizes words.old) (words_in inputs.now)))
+        × (state_in sizes words.new ≡ run_state N (state_in sizes words.old) (words_in inputs.now)) }
 {
     put_row(inputs, 0, words);
     step_lines(file, net, schedule, sizes, words);

@@ -1,4 +1,5 @@
 // One clock over a schedule: its lines one after the other, on a row of words that has a place for each.
+#![tactic(auto)]
 pub mod clock;
 mod operations;
 
@@ -8,6 +9,7 @@ ghost use Rattle.netlist.specs.Checks.{WellFormed};
 ghost use Rattle.circuit.specs.Opened.{opened};
 ghost use Rattle.schedule.specs.Lines.{schedule_words, code_on, place_on, Scheduled};
 ghost use Rattle.stepping.specs.Step.{line_word, FitTo, Stepped, gate_on, GateAsks, chosen_on, OnLine, OnRun};
+ghost use Rattle.circuit.specs.Circuit.{net_of, Circuit};
 
 use circuit::{table_word, wide};
 use gates::gate;
@@ -29,9 +31,9 @@ fn gate_word(schedule: &[u16], op: Op, i: usize, words: &[u16]) -> u16
 
 // The word of an asynchronous ROM on line i.
 fn rom_word(file: &[u8], net: &[u16], schedule: &[u16], i: usize, words: &[u16]) -> u16
-    ghost { Net }
-    requires* { λ N. opened 𝓤 file.now net.now N (WellFormed N × OnLine N schedule.now words.now i × (code_on schedule.now i ≡ 3)) }
-    ensures* { λ N r. ⌜ r ≡ line_word N schedule.now words.now i ⌝ }
+    requires circuit { Circuit file.now net.now }
+    requires asked { let N = net_of file.now net.now in WellFormed N × OnLine N schedule.now words.now i × (code_on schedule.now i ≡ 3) }
+    ensures { let N = net_of file.now net.now in result ≡ line_word N schedule.now words.now i }
 {
     let address = words[part_of(schedule, i, PLACES)];
     table_word(file, net, part_of(schedule, i, HELD), wide(address))
@@ -56,9 +58,9 @@ fn line_word(
     i: usize,
     words: &[u16],
 ) -> u16
-    ghost { Net }
-    requires* { λ N. opened 𝓤 file.now net.now N (WellFormed N × OnLine N schedule.now words.now i × (code ≡ code_on schedule.now i)) }
-    ensures* { λ N r. ⌜ r ≡ line_word N schedule.now words.now i ⌝ }
+    requires circuit { Circuit file.now net.now }
+    requires asked { let N = net_of file.now net.now in WellFormed N × OnLine N schedule.now words.now i × (code ≡ code_on schedule.now i) }
+    ensures { let N = net_of file.now net.now in result ≡ line_word N schedule.now words.now i }
 {
     match code {
         3 => rom_word(file, net, schedule, i, words),
@@ -97,9 +99,9 @@ fn run_of(
     to: usize,
     words: &mut [u16],
 )
-    ghost { Net }
-    requires* { λ N. opened 𝓤 file.now net.now N (WellFormed N × OnRun N schedule.now words.old code from to) }
-    ensures* { λ N _. ⌜ Stepped N schedule.now from to words.old words.new ⌝ }
+    requires circuit { Circuit file.now net.now }
+    requires asked { let N = net_of file.now net.now in WellFormed N × OnRun N schedule.now words.old code from to }
+    ensures { let N = net_of file.now net.now in Stepped N schedule.now from to words.old words.new }
 {
     let mut i = from;
     while i < to {
@@ -110,10 +112,10 @@ fn run_of(
 
 // All lines behind those that are loaded, run by run.
 pub fn step_lines(file: &[u8], net: &[u16], schedule: &[u16], sizes: Sizes, words: &mut [u16])
-    ghost { Net }
-    requires* { λ N. opened 𝓤 file.now net.now N (WellFormed N × Scheduled N schedule.now sizes × (2048 ≤ length words.old)
-        × FitTo N schedule.now words.old (sizes.inputs + sizes.held)) }
-    ensures* { λ N _. ⌜ Stepped N schedule.now (sizes.inputs + sizes.held) sizes.lines words.old words.new ⌝ }
+    requires circuit { Circuit file.now net.now }
+    requires asked { let N = net_of file.now net.now in WellFormed N × Scheduled N schedule.now sizes × (2048 ≤ length words.old)
+        × FitTo N schedule.now words.old (sizes.inputs + sizes.held) }
+    ensures { let N = net_of file.now net.now in Stepped N schedule.now (sizes.inputs + sizes.held) sizes.lines words.old words.new }
 {
     let mut i = sizes.inputs + sizes.held;
     let lines = sizes.lines;

@@ -5,110 +5,111 @@ ghost use Rattle.netlist.specs.Checks.{WellFormed};
 ghost use Rattle.circuit.specs.Opened.{opened};
 ghost use Rattle.schedule.specs.Lines.{code_on};
 ghost use Rattle.stepping.specs.Step.{Stepped, OnRun};
+ghost use Rattle.circuit.specs.Circuit.{net_of, Circuit};
 
 use super::run_of;
 use schedule::{CODE, part_of};
 
 fn roms(file: &[u8], net: &[u16], schedule: &[u16], from: usize, to: usize, words: &mut [u16])
-    ghost { Net }
-    requires* { λ N. opened 𝓤 file.now net.now N (WellFormed N × OnRun N schedule.now words.old 3 from to) }
-    ensures* { λ N _. ⌜ Stepped N schedule.now from to words.old words.new ⌝ }
+    requires circuit { Circuit file.now net.now }
+    requires asked { let N = net_of file.now net.now in WellFormed N × OnRun N schedule.now words.old 3 from to }
+    ensures { let N = net_of file.now net.now in Stepped N schedule.now from to words.old words.new }
 {
     run_of(file, net, schedule, 3, from, to, words);
 }
 
 fn constants(file: &[u8], net: &[u16], schedule: &[u16], from: usize, to: usize, words: &mut [u16])
-    ghost { Net }
-    requires* { λ N. opened 𝓤 file.now net.now N (WellFormed N × OnRun N schedule.now words.old 8 from to) }
-    ensures* { λ N _. ⌜ Stepped N schedule.now from to words.old words.new ⌝ }
+    requires circuit { Circuit file.now net.now }
+    requires asked { let N = net_of file.now net.now in WellFormed N × OnRun N schedule.now words.old 8 from to }
+    ensures { let N = net_of file.now net.now in Stepped N schedule.now from to words.old words.new }
 {
     run_of(file, net, schedule, 8, from, to, words);
 }
 
 fn nots(file: &[u8], net: &[u16], schedule: &[u16], from: usize, to: usize, words: &mut [u16])
-    ghost { Net }
-    requires* { λ N. opened 𝓤 file.now net.now N (WellFormed N × OnRun N schedule.now words.old 9 from to) }
-    ensures* { λ N _. ⌜ Stepped N schedule.now from to words.old words.new ⌝ }
+    requires circuit { Circuit file.now net.now }
+    requires asked { let N = net_of file.now net.now in WellFormed N × OnRun N schedule.now words.old 9 from to }
+    ensures { let N = net_of file.now net.now in Stepped N schedule.now from to words.old words.new }
 {
     run_of(file, net, schedule, 9, from, to, words);
 }
 
 fn ands(file: &[u8], net: &[u16], schedule: &[u16], from: usize, to: usize, words: &mut [u16])
-    ghost { Net }
-    requires* { λ N. opened 𝓤 file.now net.now N (WellFormed N × OnRun N schedule.now words.old 10 from to) }
-    ensures* { λ N _. ⌜ Stepped N schedule.now from to words.old words.new ⌝ }
+    requires circuit { Circuit file.now net.now }
+    requires asked { let N = net_of file.now net.now in WellFormed N × OnRun N schedule.now words.old 10 from to }
+    ensures { let N = net_of file.now net.now in Stepped N schedule.now from to words.old words.new }
 {
     run_of(file, net, schedule, 10, from, to, words);
 }
 
 fn ors(file: &[u8], net: &[u16], schedule: &[u16], from: usize, to: usize, words: &mut [u16])
-    ghost { Net }
-    requires* { λ N. opened 𝓤 file.now net.now N (WellFormed N × OnRun N schedule.now words.old 11 from to) }
-    ensures* { λ N _. ⌜ Stepped N schedule.now from to words.old words.new ⌝ }
+    requires circuit { Circuit file.now net.now }
+    requires asked { let N = net_of file.now net.now in WellFormed N × OnRun N schedule.now words.old 11 from to }
+    ensures { let N = net_of file.now net.now in Stepped N schedule.now from to words.old words.new }
 {
     run_of(file, net, schedule, 11, from, to, words);
 }
 
 fn xors(file: &[u8], net: &[u16], schedule: &[u16], from: usize, to: usize, words: &mut [u16])
-    ghost { Net }
-    requires* { λ N. opened 𝓤 file.now net.now N (WellFormed N × OnRun N schedule.now words.old 12 from to) }
-    ensures* { λ N _. ⌜ Stepped N schedule.now from to words.old words.new ⌝ }
+    requires circuit { Circuit file.now net.now }
+    requires asked { let N = net_of file.now net.now in WellFormed N × OnRun N schedule.now words.old 12 from to }
+    ensures { let N = net_of file.now net.now in Stepped N schedule.now from to words.old words.new }
 {
     run_of(file, net, schedule, 12, from, to, words);
 }
 
 fn adds(file: &[u8], net: &[u16], schedule: &[u16], from: usize, to: usize, words: &mut [u16])
-    ghost { Net }
-    requires* { λ N. opened 𝓤 file.now net.now N (WellFormed N × OnRun N schedule.now words.old 13 from to) }
-    ensures* { λ N _. ⌜ Stepped N schedule.now from to words.old words.new ⌝ }
+    requires circuit { Circuit file.now net.now }
+    requires asked { let N = net_of file.now net.now in WellFormed N × OnRun N schedule.now words.old 13 from to }
+    ensures { let N = net_of file.now net.now in Stepped N schedule.now from to words.old words.new }
 {
     run_of(file, net, schedule, 13, from, to, words);
 }
 
 fn subtracts(file: &[u8], net: &[u16], schedule: &[u16], from: usize, to: usize, words: &mut [u16])
-    ghost { Net }
-    requires* { λ N. opened 𝓤 file.now net.now N (WellFormed N × OnRun N schedule.now words.old 14 from to) }
-    ensures* { λ N _. ⌜ Stepped N schedule.now from to words.old words.new ⌝ }
+    requires circuit { Circuit file.now net.now }
+    requires asked { let N = net_of file.now net.now in WellFormed N × OnRun N schedule.now words.old 14 from to }
+    ensures { let N = net_of file.now net.now in Stepped N schedule.now from to words.old words.new }
 {
     run_of(file, net, schedule, 14, from, to, words);
 }
 
 fn equals(file: &[u8], net: &[u16], schedule: &[u16], from: usize, to: usize, words: &mut [u16])
-    ghost { Net }
-    requires* { λ N. opened 𝓤 file.now net.now N (WellFormed N × OnRun N schedule.now words.old 15 from to) }
-    ensures* { λ N _. ⌜ Stepped N schedule.now from to words.old words.new ⌝ }
+    requires circuit { Circuit file.now net.now }
+    requires asked { let N = net_of file.now net.now in WellFormed N × OnRun N schedule.now words.old 15 from to }
+    ensures { let N = net_of file.now net.now in Stepped N schedule.now from to words.old words.new }
 {
     run_of(file, net, schedule, 15, from, to, words);
 }
 
 fn lesses(file: &[u8], net: &[u16], schedule: &[u16], from: usize, to: usize, words: &mut [u16])
-    ghost { Net }
-    requires* { λ N. opened 𝓤 file.now net.now N (WellFormed N × OnRun N schedule.now words.old 16 from to) }
-    ensures* { λ N _. ⌜ Stepped N schedule.now from to words.old words.new ⌝ }
+    requires circuit { Circuit file.now net.now }
+    requires asked { let N = net_of file.now net.now in WellFormed N × OnRun N schedule.now words.old 16 from to }
+    ensures { let N = net_of file.now net.now in Stepped N schedule.now from to words.old words.new }
 {
     run_of(file, net, schedule, 16, from, to, words);
 }
 
 fn chooses(file: &[u8], net: &[u16], schedule: &[u16], from: usize, to: usize, words: &mut [u16])
-    ghost { Net }
-    requires* { λ N. opened 𝓤 file.now net.now N (WellFormed N × OnRun N schedule.now words.old 17 from to) }
-    ensures* { λ N _. ⌜ Stepped N schedule.now from to words.old words.new ⌝ }
+    requires circuit { Circuit file.now net.now }
+    requires asked { let N = net_of file.now net.now in WellFormed N × OnRun N schedule.now words.old 17 from to }
+    ensures { let N = net_of file.now net.now in Stepped N schedule.now from to words.old words.new }
 {
     run_of(file, net, schedule, 17, from, to, words);
 }
 
 fn parts(file: &[u8], net: &[u16], schedule: &[u16], from: usize, to: usize, words: &mut [u16])
-    ghost { Net }
-    requires* { λ N. opened 𝓤 file.now net.now N (WellFormed N × OnRun N schedule.now words.old 18 from to) }
-    ensures* { λ N _. ⌜ Stepped N schedule.now from to words.old words.new ⌝ }
+    requires circuit { Circuit file.now net.now }
+    requires asked { let N = net_of file.now net.now in WellFormed N × OnRun N schedule.now words.old 18 from to }
+    ensures { let N = net_of file.now net.now in Stepped N schedule.now from to words.old words.new }
 {
     run_of(file, net, schedule, 18, from, to, words);
 }
 
 fn joins(file: &[u8], net: &[u16], schedule: &[u16], from: usize, to: usize, words: &mut [u16])
-    ghost { Net }
-    requires* { λ N. opened 𝓤 file.now net.now N (WellFormed N × OnRun N schedule.now words.old 19 from to) }
-    ensures* { λ N _. ⌜ Stepped N schedule.now from to words.old words.new ⌝ }
+    requires circuit { Circuit file.now net.now }
+    requires asked { let N = net_of file.now net.now in WellFormed N × OnRun N schedule.now words.old 19 from to }
+    ensures { let N = net_of file.now net.now in Stepped N schedule.now from to words.old words.new }
 {
     run_of(file, net, schedule, 19, from, to, words);
 }
@@ -122,9 +123,9 @@ pub fn step_run(
     to: usize,
     words: &mut [u16],
 )
-    ghost { Net }
-    requires* { λ N. opened 𝓤 file.now net.now N (WellFormed N × (from < to) × OnRun N schedule.now words.old (code_on schedule.now from) from to) }
-    ensures* { λ N _. ⌜ Stepped N schedule.now from to words.old words.new ⌝ }
+    requires circuit { Circuit file.now net.now }
+    requires asked { let N = net_of file.now net.now in WellFormed N × (from < to) × OnRun N schedule.now words.old (code_on schedule.now from) from to }
+    ensures { let N = net_of file.now net.now in Stepped N schedule.now from to words.old words.new }
 {
     match part_of(schedule, from, CODE) {
         3 => roms(file, net, schedule, from, to, words),

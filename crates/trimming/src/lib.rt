@@ -1,4 +1,5 @@
 // A circuit gets rid of the tables that no node reads: document 02, T-06. The others keep their order, and each ROM reads the table that it read.
+#![tactic(auto)]
 ghost use Rattle.std.specs.Prelude.{◌≡◌, map, ℕ, ◌<◌, ◌≤◌, length, get_or};
 ghost use Rattle.netlist.specs.Net.{Net};
 ghost use Rattle.netlist.specs.Checks.{HasTables};
@@ -45,9 +46,9 @@ fn renumber(file: &[u8], net: &mut [u16], numbers: &[u16])
 
 // Leaves out the tables that no node reads, and numbers the others anew.
 pub fn trim_tables(file: &[u8], net: &mut [u16])
-    ghost { Net }
-    requires* { λ N. opened 𝓤 file.now net.old N (HasTables N) }
-    ensures* { λ N _. ⌜ (net_of file.now net.new ≡ trimmed N) × Circuit file.now net.new ⌝ }
+    requires circuit { Circuit file.now net.old }
+    requires asked { let N = net_of file.now net.old in HasTables N }
+    ensures { let N = net_of file.now net.old in (net_of file.now net.new ≡ trimmed N) × Circuit file.now net.new }
 {
     let mut marks = [0u8; 17];
     mark_tables(file, net, &mut marks);

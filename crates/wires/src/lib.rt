@@ -1,10 +1,12 @@
 // The wires of an opened netlist: for every node the root where its wire begins, and the registers passed on the way back to it.
+#![tactic(auto)]
 ghost use Rattle.std.specs.Prelude.{◌≡◌, ◌<◌, length, take};
 ghost use Rattle.netlist.specs.Net.{Net, size, Sourced};
 ghost use Rattle.circuit.specs.Opened.{opened};
 ghost use Rattle.retiming.specs.Rewrite.{root, passed};
 ghost use Rattle.wires.specs.Traced.{roots_in, passes_in, Ringless, HalfTraced, MoreTraced, AllTraced};
 ghost use Rattle.wires.specs.TracedLaws.{Written};
+ghost use Rattle.circuit.specs.Circuit.{net_of, Circuit};
 
 use areas::{read_at, write_at};
 use circuit::{node_count, register, source_of};
@@ -41,10 +43,10 @@ fn put_wire(timing: &mut [u16], v: usize, root: u16, through: u16)
 
 // Every node is its own root with no register passed, but the registers wait. Without a branch.
 fn mark_all(file: &[u8], net: &[u16], timing: &mut [u16])
-    ghost { Net }
-    requires* { λ N. opened 𝓤 file.now net.now N (length timing.old ≡ 3072) }
-    ensures* { λ N _. ⌜ HalfTraced N (roots_in timing.new) (passes_in timing.new) (size N)
-        × (take 1024 timing.new ≡ take 1024 timing.old) ⌝ }
+    requires circuit { Circuit file.now net.now }
+    requires asked { length timing.old ≡ 3072 }
+    ensures { let N = net_of file.now net.now in HalfTraced N (roots_in timing.new) (passes_in timing.new) (size N)
+        × (take 1024 timing.new ≡ take 1024 timing.old) }
 {
     let n = node_count(file, net);
     let mut v: usize = 0;
@@ -57,10 +59,10 @@ fn mark_all(file: &[u8], net: &[u16], timing: &mut [u16])
 
 // The wire of node v: back through the registers that wait, up to a node that is traced.
 fn wire_of(file: &[u8], net: &[u16], v: usize, timing: &[u16]) -> Wire
-    ghost { Net }
-    requires* { λ N. opened 𝓤 file.now net.now N (Sourced N × Ringless N × (v < size N) × HalfTraced N (roots_in timing.now) (passes_in timing.now) (size N)
-        × (length timing.now ≡ 3072)) }
-    ensures* { λ N r. ⌜ (r.root ≡ root N v) × (r.through ≡ passed N v) ⌝ }
+    requires circuit { Circuit file.now net.now }
+    requires asked { let N = net_of file.now net.now in Sourced N × Ringless N × (v < size N) × HalfTraced N (roots_in timing.now) (passes_in timing.now) (size N)
+        × (length timing.now ≡ 3072) }
+    ensures { let N = net_of file.now net.now in (result.root ≡ root N v) × (result.through ≡ passed N v) }
 {
     let mut u = v;
     let mut count: u16 = 0;
@@ -76,12 +78,12 @@ fn wire_of(file: &[u8], net: &[u16], v: usize, timing: &[u16]) -> Wire
 
 // Traces the registers that wait on the wire of node v, from v back; each passes one register less than the one before it.
 fn set_back(file: &[u8], net: &[u16], v: usize, wire: Wire, timing: &mut [u16])
-    ghost { Net }
-    requires* { λ N. opened 𝓤 file.now net.now N (Sourced N × Ringless N × (v < size N) × HalfTraced N (roots_in timing.old) (passes_in timing.old) (size N)
-        × (length timing.old ≡ 3072) × (wire.root ≡ root N v) × (wire.through ≡ passed N v)) }
-    ensures* { λ N _. ⌜ HalfTraced N (roots_in timing.new) (passes_in timing.new) (size N)
+    requires circuit { Circuit file.now net.now }
+    requires asked { let N = net_of file.now net.now in Sourced N × Ringless N × (v < size N) × HalfTraced N (roots_in timing.old) (passes_in timing.old) (size N)
+        × (length timing.old ≡ 3072) × (wire.root ≡ root N v) × (wire.through ≡ passed N v) }
+    ensures { let N = net_of file.now net.now in HalfTraced N (roots_in timing.new) (passes_in timing.new) (size N)
         × MoreTraced N (roots_in timing.old) (passes_in timing.old) (roots_in timing.new) (passes_in timing.new) v
-        × (take 1024 timing.new ≡ take 1024 timing.old) ⌝ }
+        × (take 1024 timing.new ≡ take 1024 timing.old) }
 {
     let from = wire.root;
     let mut left = wire.through;
@@ -95,12 +97,12 @@ fn set_back(file: &[u8], net: &[u16], v: usize, wire: Wire, timing: &mut [u16])
 
 // Node v; what was traced before stays so.
 fn trace(file: &[u8], net: &[u16], v: usize, timing: &mut [u16])
-    ghost { Net }
-    requires* { λ N. opened 𝓤 file.now net.now N (Sourced N × Ringless N × (v < size N) × HalfTraced N (roots_in timing.old) (passes_in timing.old) (size N)
-        × (length timing.old ≡ 3072)) }
-    ensures* { λ N _. ⌜ HalfTraced N (roots_in timing.new) (passes_in timing.new) (size N)
+    requires circuit { Circuit file.now net.now }
+    requires asked { let N = net_of file.now net.now in Sourced N × Ringless N × (v < size N) × HalfTraced N (roots_in timing.old) (passes_in timing.old) (size N)
+        × (length timing.old ≡ 3072) }
+    ensures { let N = net_of file.now net.now in HalfTraced N (roots_in timing.new) (passes_in timing.new) (size N)
         × MoreTraced N (roots_in timing.old) (passes_in timing.old) (roots_in timing.new) (passes_in timing.new) v
-        × (take 1024 timing.new ≡ take 1024 timing.old) ⌝ }
+        × (take 1024 timing.new ≡ take 1024 timing.old) }
 {
     if read_at(timing, PASSES + v) == WAITS {
         let wire = wire_of(file, net, v, timing);
@@ -110,9 +112,9 @@ fn trace(file: &[u8], net: &[u16], v: usize, timing: &mut [u16])
 
 // Every node; each register is traced once. The leads stay; past the number of nodes nothing is said of roots and passes.
 pub fn find_roots(file: &[u8], net: &[u16], timing: &mut [u16])
-    ghost { Net }
-    requires* { λ N. opened 𝓤 file.now net.now N (Sourced N × Ringless N × (length timing.old ≡ 3072)) }
-    ensures* { λ N _. ⌜ AllTraced N (roots_in timing.new) (passes_in timing.new) × (take 1024 timing.new ≡ take 1024 timing.old) ⌝ }
+    requires circuit { Circuit file.now net.now }
+    requires asked { let N = net_of file.now net.now in Sourced N × Ringless N × (length timing.old ≡ 3072) }
+    ensures { let N = net_of file.now net.now in AllTraced N (roots_in timing.new) (passes_in timing.new) × (take 1024 timing.new ≡ take 1024 timing.old) }
 {
     mark_all(file, net, timing);
     let n = node_count(file, net);

@@ -1,4 +1,5 @@
 // The wires of the netlist in a row, three to a node, each with its root, its source, and the clock of the reset word that a ROM at its root takes from it.
+#![tactic(auto)]
 pub mod links;
 
 ghost use Rattle.std.specs.Prelude.{◌≡◌, cond, ◌+◌, ◌-◌, ◌*◌, ◌<◌, ◌≤◌, length};
@@ -56,9 +57,9 @@ pub fn asked_clock(n: usize, origin: usize) -> u16
 
 // Whether node v stays: with a late start, one from which no output can be reached is left out.
 pub fn stays(file: &[u8], net: &[u16], mode: Mode, timing: &[u16], v: usize) -> bool
-    ghost { Net }
-    requires* { λ N. opened 𝓤 file.now net.now N (Timed N (mode_timing mode N) timing.now × (length timing.now ≡ 3072) × (v < size N)) }
-    ensures* { λ N r. ⌜ r ≡ (mode_timing mode N).keeps v ⌝ }
+    requires circuit { Circuit file.now net.now }
+    requires asked { let N = net_of file.now net.now in Timed N (mode_timing mode N) timing.now × (length timing.now ≡ 3072) × (v < size N) }
+    ensures { let N = net_of file.now net.now in result ≡ (mode_timing mode N).keeps v }
 {
     match mode {
         Mode::Plain => true,
@@ -76,9 +77,9 @@ pub fn memory_bit(file: &[u8], net: &[u16], v: usize) -> usize
 
 // How many registers stand as nodes of their own on the wire from s to x, in the rewritten netlist.
 pub fn count_on(file: &[u8], net: &[u16], mode: Mode, timing: &[u16], x: usize, s: usize) -> usize
-    ghost { Net }
-    requires* { λ N. opened 𝓤 file.now net.now N (Timed N (mode_timing mode N) timing.now × (length timing.now ≡ 3072) × (x < size N) × (s < size N)) }
-    ensures* { λ N r. ⌜ (r ≡ count_from N (mode_timing mode N) x s) × (r ≤ 3075) ⌝ }
+    requires circuit { Circuit file.now net.now }
+    requires asked { let N = net_of file.now net.now in Timed N (mode_timing mode N) timing.now × (length timing.now ≡ 3072) × (x < size N) × (s < size N) }
+    ensures { let N = net_of file.now net.now in (result ≡ count_from N (mode_timing mode N) x s) × (result ≤ 3075) }
 {
     let u = wide(read_at(timing, ROOTS + s));
     let before = wide(read_at(timing, PASSES + s))
@@ -92,9 +93,9 @@ pub fn count_on(file: &[u8], net: &[u16], mode: Mode, timing: &[u16], x: usize, 
 
 // How many wires end at node v: none at a register, nor at a node that is left out.
 pub fn wires_to(file: &[u8], net: &[u16], mode: Mode, timing: &[u16], v: usize) -> usize
-    ghost { Net }
-    requires* { λ N. opened 𝓤 file.now net.now N (Timed N (mode_timing mode N) timing.now × (length timing.now ≡ 3072) × (v < size N)) }
-    ensures* { λ N r. ⌜ (r ≡ wire_count N (mode_timing mode N) v) × (r ≤ 3) ⌝ }
+    requires circuit { Circuit file.now net.now }
+    requires asked { let N = net_of file.now net.now in Timed N (mode_timing mode N) timing.now × (length timing.now ≡ 3072) × (v < size N) }
+    ensures { let N = net_of file.now net.now in (result ≡ wire_count N (mode_timing mode N) v) × (result ≤ 3) }
 {
     // Registers follow no pattern, what stays does: the test that can be foreseen comes first.
     if stays(file, net, mode, timing, v) {
@@ -131,10 +132,10 @@ fn enter_wire(
     p: usize,
     wires: &mut [u16],
 )
-    ghost { Net }
-    requires* { λ N. opened 𝓤 file.now net.now N (Timed N (mode_timing mode N) timing.now × (length timing.now ≡ 3072) × (x < size N) × (p < 3) × (p < wire_count N (mode_timing mode N) x)
-        × (length wires.old ≡ 10240) × Entered N (mode_timing mode N) wires.old (3 * x + p)) }
-    ensures* { λ N _. ⌜ Entered N (mode_timing mode N) wires.new (3 * x + p + 1) × (heads_in wires.new ≡ heads_in wires.old) ⌝ }
+    requires circuit { Circuit file.now net.now }
+    requires asked { let N = net_of file.now net.now in Timed N (mode_timing mode N) timing.now × (length timing.now ≡ 3072) × (x < size N) × (p < 3) × (p < wire_count N (mode_timing mode N) x)
+        × (length wires.old ≡ 10240) × Entered N (mode_timing mode N) wires.old (3 * x + p) }
+    ensures { let N = net_of file.now net.now in Entered N (mode_timing mode N) wires.new (3 * x + p + 1) × (heads_in wires.new ≡ heads_in wires.old) }
 {
     let k = 3 * x + p;
     let s = source_of(file, net, x, p);
@@ -148,10 +149,10 @@ fn enter_wire(
 
 // Enters the wires that end at x.
 fn enter_node(file: &[u8], net: &[u16], mode: Mode, timing: &[u16], x: usize, wires: &mut [u16])
-    ghost { Net }
-    requires* { λ N. opened 𝓤 file.now net.now N (Timed N (mode_timing mode N) timing.now × (length timing.now ≡ 3072) × (x < size N)
-        × (length wires.old ≡ 10240) × Entered N (mode_timing mode N) wires.old (3 * x)) }
-    ensures* { λ N _. ⌜ Entered N (mode_timing mode N) wires.new (3 * x + 3) × (heads_in wires.new ≡ heads_in wires.old) ⌝ }
+    requires circuit { Circuit file.now net.now }
+    requires asked { let N = net_of file.now net.now in Timed N (mode_timing mode N) timing.now × (length timing.now ≡ 3072) × (x < size N)
+        × (length wires.old ≡ 10240) × Entered N (mode_timing mode N) wires.old (3 * x) }
+    ensures { let N = net_of file.now net.now in Entered N (mode_timing mode N) wires.new (3 * x + 3) × (heads_in wires.new ≡ heads_in wires.old) }
 {
     let n = wires_to(file, net, mode, timing, x);
     let mut p: usize = 0;
@@ -163,10 +164,10 @@ fn enter_node(file: &[u8], net: &[u16], mode: Mode, timing: &[u16], x: usize, wi
 
 // Enters all wires.
 pub fn enter_wires(file: &[u8], net: &[u16], mode: Mode, timing: &[u16], wires: &mut [u16])
-    ghost { Net }
-    requires* { λ N. opened 𝓤 file.now net.now N (Timed N (mode_timing mode N) timing.now × (length timing.now ≡ 3072)
-        × (length wires.old ≡ 10240) × Entered N (mode_timing mode N) wires.old 0) }
-    ensures* { λ N _. ⌜ Entered N (mode_timing mode N) wires.new (3 * size N) × (heads_in wires.new ≡ heads_in wires.old) ⌝ }
+    requires circuit { Circuit file.now net.now }
+    requires asked { let N = net_of file.now net.now in Timed N (mode_timing mode N) timing.now × (length timing.now ≡ 3072)
+        × (length wires.old ≡ 10240) × Entered N (mode_timing mode N) wires.old 0 }
+    ensures { let N = net_of file.now net.now in Entered N (mode_timing mode N) wires.new (3 * size N) × (heads_in wires.new ≡ heads_in wires.old) }
 {
     let n = node_count(file, net);
     let mut x: usize = 0;
