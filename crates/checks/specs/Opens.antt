@@ -3,17 +3,17 @@ use Rattle.std.specs.Prelude.{◌≡◌, refl, List, ℕ, ◌<◌, length}
 use Rattle.std.proofs.Math.Path.{sym}
 use Rattle.std.proofs.Common.{ap, subst, ◌∙◌, arith}
 use Rattle.std.proofs.Math.Logic.{⊎_elim}
-use Rattle.lists.specs.BelowLaws.{lt_or_le}
+use Rattle.lists.proofs.BelowLaws.{lt_or_le}
 use Rattle.netlist.specs.Net.{in_clock, Net, size, element_at, source, operands, Sourced}
 use Rattle.netlist.specs.Checks.{WellFormed}
-use Rattle.netlist.specs.VerdictLaws.{reader_fine}
+use Rattle.netlist.proofs.VerdictLaws.{reader_fine}
 use Rattle.netlist.specs.Verdict.{reader_verdict}
 use Rattle.netlist.specs.File.{bad, good, decode, judged, file_verdict, answer, check_answer}
 use Rattle.netlist.specs.declared.Answer.TheVariants.{Accepted, Refused}
 use Rattle.netlist.specs.declared.Verdict.{Verdict}
 use Rattle.netlist.specs.declared.Verdict.TheVariants.{Fine, Refuses}
 use Rattle.codec.specs.Bytes.{Bytes}
-use Rattle.codec.specs.DecodeWithin.{decode_within}
+use Rattle.codec.proofs.DecodeWithin.{decode_within}
 use Rattle.circuit.specs.Circuit.{order_of, net_of, Circuit}
 use Rattle.circuit.specs.Order.{Complete}
 use Rattle.checks.specs.Open.{Open, Opened, turned_away, taken}

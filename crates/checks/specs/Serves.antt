@@ -5,7 +5,7 @@ use Rattle.std.proofs.Common.{ap₂, ◌∙◌, arith}
 use Rattle.std.proofs.Math.ListN.{drop}
 use Rattle.lists.specs.Lists.{concat_map}
 use Rattle.words.specs.Words.{bytes}
-use Rattle.lists.specs.Paths.{on_lt, off_lt}
+use Rattle.lists.proofs.Paths.{on_lt, off_lt}
 use Rattle.netlist.specs.Net.{Table, no_table, Net, size, node_at}
 use Rattle.netlist.specs.Verdict.{onward}
 use Rattle.netlist.specs.NodeField.{no_node}
@@ -18,8 +18,8 @@ use Rattle.netlist.specs.declared.Node.{Node}
 use Rattle.netlist.specs.declared.Verdict.{Verdict}
 use Rattle.netlist.specs.declared.Verdict.TheVariants.{Fine, Refuses}
 use Rattle.codec.specs.Bytes.{Bytes}
-use Rattle.codec.specs.TableCame.{stored_as_they_came}
-use Rattle.codec.specs.FieldCame.{content-bytes}
+use Rattle.codec.proofs.TableCame.{stored_as_they_came}
+use Rattle.codec.proofs.FieldCame.{content-bytes}
 use Rattle.circuit.specs.Circuit.{net_of}
 use Rattle.checks.specs.Open.{Open}
 use Rattle.checks.specs.Services.{numbered, node_by, node_of_file, words_of_net, words_by, words_of_file}

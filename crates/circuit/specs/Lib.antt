@@ -1,10 +1,6 @@
 pub mod Code
 pub mod Circuit
-pub mod CircuitLaws
 pub mod Building
-pub mod Ordering
 pub mod Renumbering
-pub mod Retabling
-pub mod Keeping
 pub mod Opened
 pub mod Order

@@ -4,7 +4,7 @@ use mathlib.Core.Bool.{false}
 use mathlib.Core.List.{List}
 use Prim.Native.Nat.{ℕ, ◌≤◌, ◌<◌}
 use lib.ListN.{get_or}
-use Rattle.lists.specs.BelowLaws.{count_below-le}
+use Rattle.lists.proofs.BelowLaws.{count_below-le}
 use Rattle.netlist.specs.Net.{Class, Net, size, Sourced}
 use Rattle.netlist.specs.Reach.{reaches_itself}
 use Rattle.order.specs.Pass.{on, swept_rest}

@@ -3,12 +3,13 @@ use Rattle.std.specs.Prelude.{◌≡◌, true, false, List, ℕ, ◌<◌}
 use Rattle.std.proofs.Common.{sym, ◌∙◌, ⊎_elim, zero-le, arith}
 use Rattle.std.proofs.lemmas.Bool.{false≢true}
 use Rattle.lists.specs.Lists.{lowest}
-use Rattle.lists.specs.BelowLaws.{true_or_false, lowest_from_is}
-use Rattle.lists.specs.SearchLaws.{Passed, lowest_past}
+use Rattle.lists.proofs.BelowLaws.{true_or_false, lowest_from_is}
+use Rattle.lists.proofs.SearchLaws.{Passed, lowest_past}
 use Rattle.netlist.specs.Net.{Class, Net, size, Sourced, RankedIn}
-use Rattle.netlist.specs.Rank.{Through, once, then, no_loop}
+use Rattle.netlist.specs.Rank.{Through, once, then}
+use Rattle.netlist.proofs.Rank.{no_loop}
 use Rattle.netlist.specs.Reach.{reaches_itself}
-use Rattle.netlist.specs.ReachLaws.{reaches_itself_iff}
+use Rattle.netlist.proofs.ReachLaws.{reaches_itself_iff}
 use Rattle.circuit.specs.Order.{Complete}
 use Rattle.order.specs.OrderLaws.{no_loop_in_order}
 

@@ -2,7 +2,7 @@
 use Rattle.std.specs.Prelude.{◌≡◌, ℕ, suc, ◌+◌, ◌≤◌, ◌<◌}
 use Rattle.std.proofs.Common.{sym, subst, ⊎_elim, arith}
 use Rattle.lists.specs.Lists.{one}
-use Rattle.lists.specs.BelowLaws.{lt-suc_split, one_le}
+use Rattle.lists.proofs.BelowLaws.{lt-suc_split, one_le}
 use Rattle.netlist.specs.Net.{in_registers, Net, size, element_at, source, is_register, RankedIn}
 
 -- a rank falls along each step into v, and into each of the first i nodes

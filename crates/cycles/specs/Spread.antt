@@ -6,12 +6,12 @@ use Rattle.std.proofs.Math.Logic.{⊎_elim}
 use Rattle.std.proofs.lemmas.List.{length-replicate}
 use Rattle.std.proofs.Math.Dec.{eqb}
 use Rattle.lists.specs.Lists.{any_below, count_below}
-use Rattle.lists.specs.BelowLaws.{true_or_false, eqb-true, eqb_self, eqb_differ, any_below_elim, any_below_intro}
-use Rattle.lists.specs.SearchLaws.{count_one_more}
+use Rattle.lists.proofs.BelowLaws.{true_or_false, eqb-true, eqb_self, eqb_differ, any_below_elim, any_below_intro}
+use Rattle.lists.proofs.SearchLaws.{count_one_more}
 use Rattle.netlist.specs.Net.{Class, Net, size, element_at, source, Sourced}
 use Rattle.netlist.specs.Rank.{Through, once, then}
 use Rattle.netlist.specs.Reach.{reaches_itself}
-use Rattle.netlist.specs.ReachLaws.{reaches_itself_iff}
+use Rattle.netlist.proofs.ReachLaws.{reaches_itself_iff}
 use Rattle.order.specs.Pass.{on, Once, Waiting, Swept, once_more}
 use Rattle.order.specs.OrderLaws.{zeros_off, no_count}
 

@@ -5,7 +5,8 @@ use Prim.Native.Nat.{ℕ}
 use lib.Dec.{eqb}
 use borrow.Author.Tests.{eq-eqb, ne_eqb}
 use Rattle.netlist.specs.declared.Element.{Element}
-use Rattle.circuit.specs.Code.{code_of, code_input, code_output, code_register, code_clocked}
+use Rattle.circuit.specs.Code.{code_of}
+use Rattle.circuit.proofs.CodeLaws.{code_input, code_output, code_register, code_clocked}
 use Rattle.evaluate.specs.Rows.{in_row}
 use Rattle.evaluate.specs.declared.Row.{Row}
 use Rattle.evaluate.specs.declared.Row.TheVariants.{Inputs, Outputs, State}

@@ -6,12 +6,12 @@ use Prim.Native.Nat.{ℕ, ◌+◌, ◌*◌, ◌^◌, ◌≤◌, ◌<◌}
 use native.Mathlib.Omega.{arith}
 use lib.ListN.{length, get_or, set}
 use Rattle.lists.specs.Lists.{count_below}
-use Rattle.lists.specs.BelowLaws.{count_below-lt}
+use Rattle.lists.proofs.BelowLaws.{count_below-lt}
 use Rattle.words.specs.Words.{word}
 use Rattle.netlist.specs.Net.{Net, size, width_at}
 use Rattle.behaviour.specs.Service.{fitting_bytes}
 use Rattle.evaluate.specs.Rows.{row_test, row_members, row_widths, Loaded}
-use Rattle.lists.specs.SelectLaws.{member, members_count}
+use Rattle.lists.proofs.SelectLaws.{member, members_count}
 use Rattle.evaluate.specs.Loading.{Loading, load_none, load_take, load_other, load_wide, load_words, load_fits}
 use Rattle.evaluate.specs.declared.Row.{Row}
 

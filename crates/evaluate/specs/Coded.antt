@@ -4,7 +4,8 @@ use Rattle.std.proofs.Common.{sym, subst, ◌∙◌, inl, inr, true≢false, ari
 use Rattle.std.proofs.Math.Path.{ap, ap₂}
 use Rattle.std.proofs.lemmas.Bool.{false≢true}
 use Rattle.std.proofs.Math.ListN.{get_or}
-use Rattle.lists.specs.Paths.{pick, off_eq}
+use Rattle.lists.specs.Paths.{pick}
+use Rattle.lists.proofs.Paths.{off_eq}
 use Rattle.words.specs.declared.Op.{Op}
 use Rattle.words.specs.declared.Op.TheVariants.{Constant, Part}
 use Rattle.gates.specs.Gate.{gate_word, gate_word-operate}
@@ -13,9 +14,10 @@ use Rattle.netlist.specs.Checks.{ElementWidths, Fits, HasTable, WellFormed}
 use Rattle.netlist.specs.NodeField.{plain_op}
 use Rattle.netlist.specs.declared.Element.{Element}
 use Rattle.netlist.specs.declared.Element.TheVariants.{Input, Output, Register, Async, Clocked, Gate}
-use Rattle.circuit.specs.Code.{code_of, op_by, element_by, number_or, table_or, element_named}
+use Rattle.circuit.specs.Code.{code_of, op_by, element_by, number_or, table_or}
+use Rattle.circuit.proofs.CodeLaws.{element_named}
 use Rattle.behaviour.specs.Run.{gives_now, holds_next}
-use Rattle.behaviour.specs.Fits.{operate-fits}
+use Rattle.behaviour.proofs.Fits.{operate-fits}
 use Rattle.evaluate.specs.Clock.{loaded}
 
 -- ---- the codes

@@ -4,11 +4,11 @@ use Rattle.std.proofs.Common.{sym, ap, ap₂, ◌∙◌, append-nil, add-one, ar
 use Rattle.std.proofs.lemmas.List.{length-map}
 use Rattle.std.proofs.lemmas.List.Edits.{sets-eq}
 use Rattle.std.proofs.Math.Seq.{take-length, drop-append-add, drop-length}
-use Rattle.lists.specs.BelowLaws.{get_or_map-lt}
-use Rattle.lists.specs.ListsLaws.{concat_map-append}
+use Rattle.lists.proofs.BelowLaws.{get_or_map-lt}
+use Rattle.lists.proofs.ListsLaws.{concat_map-append}
 use Rattle.words.specs.Words.{bytes}
 use Rattle.behaviour.specs.Service.{bytes_of}
-use Rattle.behaviour.specs.WordBytes.{length-bytes}
+use Rattle.behaviour.proofs.WordBytes.{length-bytes}
 
 -- the words of the first i numbers of l are written; there is room for those of all
 pub record Filling (h : ℕ → ℕ) (l before after : List ℕ) (i : ℕ) : Type 0 where

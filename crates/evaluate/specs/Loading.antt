@@ -2,14 +2,15 @@
 use Rattle.std.specs.Prelude.{◌≡◌, refl, ◌⊎◌, Bool, true, false, List, ℕ, suc, ◌+◌, ◌*◌, ◌/◌, ◌^◌, ◌≤◌, ◌<◌, length, get_or, set, eqb}
 use Rattle.std.proofs.Common.{sym, ap, subst, ◌∙◌, inl, inr, ⊎_elim, true≢false, not-suc-le-zero, arith, get_or-set_same, get_or-set_other, ext_get_or, eq-eqb, ne_eqb}
 use Rattle.lists.specs.Lists.{select, count_below}
-use Rattle.lists.specs.BelowLaws.{true_or_false, and_right, lt-suc_split, get_or_listed, count_below-lt, count_below_same}
-use Rattle.lists.specs.ListsLaws.{length-select}
+use Rattle.lists.proofs.BelowLaws.{true_or_false, and_right, lt-suc_split, get_or_listed, count_below-lt, count_below_same}
+use Rattle.lists.proofs.ListsLaws.{length-select}
 use Rattle.words.specs.Words.{word}
 use Rattle.behaviour.specs.Runs.{fitting}
-use Rattle.behaviour.specs.Fitting.{fitting-select, fitting_at}
+use Rattle.behaviour.proofs.Fitting.{fitting-select, fitting_at}
 use Rattle.behaviour.specs.Service.{words_in, fitting_bytes}
-use Rattle.behaviour.specs.WordBytes.{length_words_in}
-use Rattle.lists.specs.SelectLaws.{Member, some_member, select_at}
+use Rattle.behaviour.proofs.WordBytes.{length_words_in}
+use Rattle.lists.specs.SelectLaws.{Member}
+use Rattle.lists.proofs.SelectLaws.{some_member, select_at}
 
 -- the numbers before the i-th that passes have their words, and no other number's word is touched
 pub record Loading (q : ℕ → Bool) (w : ℕ → ℕ) (b before after : List ℕ) (i : ℕ) : Type 0 where

@@ -7,7 +7,8 @@ use Rattle.netlist.specs.declared.Element.{Element}
 use Rattle.netlist.specs.declared.Element.TheVariants.{Input, Output, Register, Async, Clocked, Gate}
 use Rattle.netlist.specs.Net.{Net, size, element_at, width_at, source, operands, holds_word, contents_at}
 use Rattle.circuit.specs.Code.{number_or}
-use Rattle.behaviour.specs.Run.{holds_next, holds_first, contents_now_lem, next_state}
+use Rattle.behaviour.specs.Run.{holds_next, holds_first, next_state}
+use Rattle.behaviour.proofs.Run.{contents_now_lem}
 
 abbrev pub next_word : Net → List ℕ → ℕ → ℕ
 next_word N ws v = holds_next (contents_at N v) (element_at N v) (λ p. get_or ws (source N v p) 0)

@@ -2,8 +2,8 @@
 use Rattle.std.specs.Prelude.{◌≡◌, Bool, true, false, List, ℕ, ◌^◌, ◌<◌, length, get_or}
 use Rattle.std.proofs.Common.{sym, ◌∙◌}
 use Rattle.lists.specs.Lists.{select}
-use Rattle.lists.specs.ListsLaws.{length-select}
-use Rattle.lists.specs.SelectLaws.{members_count}
+use Rattle.lists.proofs.ListsLaws.{length-select}
+use Rattle.lists.proofs.SelectLaws.{members_count}
 use Rattle.netlist.specs.Net.{Net, size, element_at, width_at, is_input, is_output, holds_word}
 use Rattle.netlist.specs.declared.Element.{Element}
 use Rattle.behaviour.specs.Service.{words_in}

@@ -6,19 +6,20 @@ use Rattle.std.proofs.lemmas.Bool.{false≢true}
 use mathlib.Core.List.{List}
 use Rattle.std.proofs.Math.ListN.{get_or}
 use Rattle.lists.specs.Lists.{count_below}
-use Rattle.lists.specs.BelowLaws.{true_or_false, eqb-true, eqb_differ, lt-suc_split}
-use Rattle.lists.specs.ListsLaws.{get_or_select}
+use Rattle.lists.proofs.BelowLaws.{true_or_false, eqb-true, eqb_differ, lt-suc_split}
+use Rattle.lists.proofs.ListsLaws.{get_or_select}
 use Rattle.netlist.specs.Net.{Net, size, element_at, width_at, source, within_clock, within_few, in_clock, is_input, holds_word, contents_at, port_of, Sourced}
 use Rattle.netlist.specs.Checks.{WellFormed}
 use Rattle.netlist.specs.declared.Element.{Element}
 use Rattle.netlist.specs.declared.Element.TheVariants.{Input, Output, Register, Async, Clocked, Gate}
 use Rattle.circuit.specs.Order.{Stands, Complete}
-use Rattle.behaviour.specs.Run.{gives_now, holder_of, contents_now, contents_now_lem, again}
-use Rattle.behaviour.specs.Gives.{operate-cong}
+use Rattle.behaviour.specs.Run.{gives_now, holder_of, contents_now, again}
+use Rattle.behaviour.proofs.Run.{contents_now_lem}
+use Rattle.behaviour.proofs.Gives.{operate-cong}
 use Rattle.evaluate.specs.Rows.{row_test, row_of, RowFits}
 use Rattle.evaluate.specs.Clock.{loaded, node_word, OperandsFit, clock_words, Evaluated}
-use Rattle.behaviour.specs.Settled.{settled}
-use Rattle.behaviour.specs.ClockFits as fits
+use Rattle.behaviour.proofs.Settled.{settled}
+use Rattle.behaviour.proofs.ClockFits as fits
 use Rattle.evaluate.specs.declared.Row.{Row}
 use Rattle.evaluate.specs.declared.Row.TheVariants.{Inputs, State}
 

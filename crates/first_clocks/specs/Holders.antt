@@ -5,12 +5,13 @@ use Rattle.std.proofs.Common.{◌∙◌, ⊎_elim, zero-add}
 use mathlib.Core.List.{[]}
 use native.Mathlib.Omega.{arith}
 use Rattle.std.proofs.Math.ListN.{get_or}
-use Rattle.lists.specs.BelowLaws.{true_or_false}
+use Rattle.lists.proofs.BelowLaws.{true_or_false}
 use Rattle.netlist.specs.Net.{Net, size, element_at, source, is_register}
 use Rattle.netlist.specs.Checks.{WellFormed}
 use Rattle.behaviour.specs.Run.{zero_word}
 use Rattle.retiming.specs.Rewrite.{root, passed}
-use Rattle.retiming.specs.Wires.{Rooted, ringless_rooted, root_within, wire_next, wire_none, behind, register_after, delay}
+use Rattle.retiming.specs.Wires.{Rooted}
+use Rattle.retiming.proofs.Wires.{ringless_rooted, root_within, wire_next, wire_none, behind, register_after, delay}
 use Rattle.first_clocks.specs.ZeroRun.{behaves}
 
 -- node u stands so many registers back from v on its wire, and had the words of v as many clocks before

@@ -4,8 +4,9 @@ use Rattle.std.proofs.Common.{sym, ap, ◌∙◌, ⊎_elim, not-suc-le-zero, ari
 use Rattle.std.proofs.lemmas.Bool.{false≢true}
 use Rattle.std.proofs.Math.Decide.{ℕ_discrete}
 use Rattle.lists.specs.Lists.{count_below}
-use Rattle.lists.specs.BelowLaws.{true_or_false, lt-suc_split, count_below-lt}
-use Rattle.lists.specs.SelectLaws.{Member, select_at, members_count, member}
+use Rattle.lists.proofs.BelowLaws.{true_or_false, lt-suc_split, count_below-lt}
+use Rattle.lists.specs.SelectLaws.{Member}
+use Rattle.lists.proofs.SelectLaws.{select_at, members_count, member}
 use Rattle.netlist.specs.Net.{Net, size, element_at, is_input, holds_word}
 use Rattle.netlist.specs.Checks.{WellFormed}
 use Rattle.behaviour.specs.Run.{zero_word}

@@ -2,9 +2,11 @@
 use Rattle.std.specs.Prelude.{◌≡◌, refl, List, ℕ, ◌+◌, ◌%◌, ◌≤◌, ◌<◌, length, get_or, set, replicate}
 use Rattle.std.proofs.Common.{sym, ap, subst, ◌∙◌, ⊎_elim, not-suc-le-zero, zero-lt-suc, mod-lt, arith, length-set, get_or-set_same, get_or-set_other, below_more}
 use Rattle.std.proofs.lemmas.List.{get_or-replicate}
-use Rattle.lists.specs.BelowLaws.{lt_or_le}
-use Rattle.lists.specs.Sections.{section, section-length, section_replicate, section-read, section-put, section_before, section-after}
-use Rattle.lists.specs.Linked.{From, LinkedFrom, linked_none, linked_past, linked_more, linked_as}
+use Rattle.lists.proofs.BelowLaws.{lt_or_le}
+use Rattle.lists.specs.Sections.{section}
+use Rattle.lists.proofs.Sections.{section-length, section_replicate, section-read, section-put, section_before, section-after}
+use Rattle.lists.specs.Linked.{From, LinkedFrom}
+use Rattle.lists.proofs.Linked.{linked_none, linked_past, linked_more, linked_as}
 
 -- the sections of its area: the first place of each slot, the next place behind each, and when the word of each is due
 abbrev pub slots_in : List ℕ → List ℕ

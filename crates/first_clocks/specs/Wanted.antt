@@ -3,7 +3,7 @@
 use Rattle.std.specs.Prelude.{◌≡◌, refl, List, ℕ, suc, ◌+◌, ◌≤◌, ◌<◌, length, get_or, set}
 use Rattle.std.proofs.Common.{sym, ap, subst, ◌∙◌, ⊎_elim, not-suc-le-zero, arith, length-set, get_or-set_same, get_or-set_other}
 use Rattle.std.proofs.Math.Decide.{ℕ_discrete}
-use Rattle.lists.specs.BelowLaws.{lt-suc_split}
+use Rattle.lists.proofs.BelowLaws.{lt-suc_split}
 use Rattle.netlist.specs.Net.{Net, size}
 use Rattle.behaviour.specs.Run.{zero_word}
 use Rattle.first_clocks.specs.Queue.{TakenTo}

@@ -7,17 +7,18 @@ use mathlib.Core.List.{List, []}
 use Prim.Native.Nat.{ℕ, suc, ◌+◌, ◌^◌, ◌<◌}
 use native.Mathlib.Omega.{arith}
 use Rattle.std.proofs.Math.ListN.{get_or}
-use Rattle.lists.specs.BelowLaws.{lt-suc_split}
-use Rattle.lists.specs.ListsLaws.{get_or_select}
+use Rattle.lists.proofs.BelowLaws.{lt-suc_split}
+use Rattle.lists.proofs.ListsLaws.{get_or_select}
 use Rattle.netlist.specs.declared.Element.{Element}
 use Rattle.netlist.specs.declared.Element.TheVariants.{Input, Output, Register, Async, Clocked, Gate}
 use Rattle.netlist.specs.Net.{Net, size, element_at, width_at, source, gives, contents_at, is_input, holds_word, port_of, Behaves, Sourced}
 use Rattle.netlist.specs.Checks.{WellFormed}
 use Rattle.circuit.specs.Code.{number_or}
-use Rattle.behaviour.specs.Run.{gives_now, holds_next, holds_first, holder_of, contents_now, contents_now_lem, again, words, state_at, run_word, zero_word}
-use Rattle.behaviour.specs.Meaning.{settles, the_run_behaves}
-use Rattle.behaviour.specs.Settled.{settled, settled_once}
-use Rattle.behaviour.specs.Fits.{words_fit_lem}
+use Rattle.behaviour.specs.Run.{gives_now, holds_next, holds_first, holder_of, contents_now, again, words, state_at, run_word, zero_word}
+use Rattle.behaviour.proofs.Run.{contents_now_lem}
+use Rattle.behaviour.proofs.Meaning.{settles, the_run_behaves}
+use Rattle.behaviour.proofs.Settled.{settled, settled_once}
+use Rattle.behaviour.proofs.Fits.{words_fit_lem}
 use Rattle.evaluate.specs.Rows.{row_test, row_of, RowFits}
 use Rattle.evaluate.specs.Clock.{clock_words, Evaluated}
 use Rattle.evaluate.specs.declared.Row.TheVariants.{Inputs, State}

@@ -3,7 +3,8 @@ use Rattle.std.specs.Prelude.{◌≡◌, List, ◌++◌, ℕ, ◌+◌, ◌-◌, 
 use Rattle.std.proofs.Common.{sym, ap, ◌∙◌, arith, get_or-append-add, get_or-drop}
 use Rattle.std.proofs.lemmas.List.{get_or-replicate}
 use Rattle.std.proofs.Math.ListN.{get_or-append}
-use Rattle.lists.specs.Sections.{section, section-read}
+use Rattle.lists.specs.Sections.{section}
+use Rattle.lists.proofs.Sections.{section-read}
 use Rattle.plan.specs.Areas.{words_in}
 
 pub record EntryWords (words : List ℕ) (entries : ℕ) (found : List ℕ) : Type 0 where

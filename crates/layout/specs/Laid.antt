@@ -5,11 +5,12 @@ use Rattle.std.proofs.Common.{ap, ◌∙◌}
 use Rattle.netlist.specs.declared.Node.{Node}
 use Rattle.netlist.specs.Net.{Net, node_at, nowhere}
 use Rattle.circuit.specs.Circuit.{tables_of, net_of, Circuit}
-use Rattle.circuit.specs.Building.{Built, rebuilt}
+use Rattle.circuit.specs.Building.{Built}
+use Rattle.circuit.proofs.Building.{rebuilt}
 use Rattle.behaviour.specs.Run.{zero_word}
 use Rattle.retiming.specs.Rewrite.{Timing, new_tables}
 use Rattle.retiming.specs.Gates.{spots, gated_with}
-use Rattle.retiming.specs.Candidate.{node_new}
+use Rattle.retiming.proofs.Candidate.{node_new}
 use Rattle.layout.specs.PlannedNode.{new_node}
 
 module _ (N : Net) (f : Timing) where

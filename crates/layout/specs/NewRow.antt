@@ -2,13 +2,13 @@
 use Rattle.std.specs.Prelude.{◌≡◌, refl, Bool, cond, List, [], ◌∷◌, ℕ, ◌+◌, ◌<◌, eqb}
 use Rattle.std.proofs.Common.{sym, ap, subst, ◌∙◌, arith}
 use Rattle.lists.specs.Lists.{one}
-use Rattle.lists.specs.BelowLaws.{one_eqb}
+use Rattle.lists.proofs.BelowLaws.{one_eqb}
 use Rattle.words.specs.declared.Op.TheVariants.{Constant, Choose}
 use Rattle.netlist.specs.declared.Element.{Element}
 use Rattle.netlist.specs.declared.Element.TheVariants.{Input, Output, Register, Async, Clocked, Gate}
 use Rattle.netlist.specs.declared.Node.{Node}
 use Rattle.netlist.specs.Net.{Net, size, element_at, width_at, operands, table_of, is_async, is_clocked, is_memory}
-use Rattle.netlist.specs.Memories.{memory_kinds}
+use Rattle.netlist.proofs.Memories.{memory_kinds}
 use Rattle.circuit.specs.declared.Row.{Row}
 use Rattle.circuit.specs.Code.{code_of, number_or, table_or}
 use Rattle.circuit.specs.Circuit.{row_node, net_of, Fits, Circuit}

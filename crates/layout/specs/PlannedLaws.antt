@@ -4,14 +4,15 @@ use Rattle.std.proofs.Math.Path.{ap}
 use Rattle.std.proofs.Common.{◌∙◌, ⊎_elim}
 use Prim.Native.Nat.{ℕ, ◌+◌, ◌≤◌, ◌<◌}
 use native.Mathlib.Omega.{arith}
-use Rattle.lists.specs.BelowLaws.{lt_or_le}
-use Rattle.lists.specs.Sections.{section-length}
+use Rattle.lists.proofs.BelowLaws.{lt_or_le}
+use Rattle.lists.proofs.Sections.{section-length}
 use Rattle.netlist.specs.Net.{Net, size, element_at, source, operands, Sourced}
 use Rattle.behaviour.specs.Run.{zero_word}
 use Rattle.retiming.specs.Rewrite.{Timing, Entry, Reg, count_on, word_from, reset_word}
 use Rattle.retiming.specs.Layout.{Stands}
 use Rattle.retiming.specs.Gates.{Spot, Old, One, Chain, Shown, Pick, first_on, spots}
-use Rattle.retiming.specs.GatesLayout.{no_spot, SpotSound, spots_sound, chain_long}
+use Rattle.retiming.specs.GatesLayout.{no_spot, SpotSound}
+use Rattle.retiming.proofs.GatesLayout.{spots_sound, chain_long}
 use Rattle.first_clocks.specs.Wanted.{OfNodes, Taken}
 use Rattle.wiring.specs.Wiring.{Ready, Timed, count_from_lem, asked_clock}
 use Rattle.wiring.specs.WiringLaws.{asked-after, lead_few, counted, count_few}

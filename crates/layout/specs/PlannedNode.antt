@@ -4,8 +4,8 @@ use Rattle.std.proofs.Math.Path.{refl, ap}
 use Rattle.std.proofs.Common.{sym, ap₂, ◌∙◌, arith, lt-ltb, le-ltb}
 use Rattle.std.proofs.Math.Logic.{⊎_elim}
 use Prim.Native.Nat.{ℕ, zero, suc, ◌+◌, ◌-◌, ◌*◌, ◌≤◌, ◌<◌}
-use Rattle.lists.specs.BelowLaws.{lt_or_le}
-use Rattle.lists.specs.Sections.{section-read}
+use Rattle.lists.proofs.BelowLaws.{lt_or_le}
+use Rattle.lists.proofs.Sections.{section-read}
 use Rattle.words.specs.declared.Op.TheVariants.{Constant}
 use Rattle.netlist.specs.declared.Element.{Element}
 use Rattle.netlist.specs.declared.Element.TheVariants.{Register, Gate}

@@ -4,10 +4,12 @@ use native.Mathlib.Omega.{arith}
 use Rattle.netlist.specs.Net.{Net, element_at, operands}
 use Rattle.behaviour.specs.Run.{zero_word}
 use Rattle.retiming.specs.Rewrite.{Timing, Entry, Reg, places, number_of}
-use Rattle.retiming.specs.Layout.{Stands, entry_within, numbered}
+use Rattle.retiming.specs.Layout.{Stands}
+use Rattle.retiming.proofs.LayoutLaws.{entry_within, numbered}
 use Rattle.retiming.specs.Gates.{Spot, Old, One, Chain, Shown, Pick, shown_on, chain_length, chain_spots, spots, spot_number}
-use Rattle.retiming.specs.GatesLayout.{no_spot, SpotSound, spots_sound, chain_long}
-use Rattle.retiming.specs.GatesNumbers.{number_of_spot}
+use Rattle.retiming.specs.GatesLayout.{no_spot, SpotSound}
+use Rattle.retiming.proofs.GatesLayout.{spots_sound, chain_long}
+use Rattle.retiming.proofs.GatesNumbers.{number_of_spot}
 use Rattle.retiming.specs.Candidate.{Retimes}
 use Rattle.plan.specs.Registers.{entry_count}
 use Rattle.steering.specs.SteeringLaws.{chain_nodes}

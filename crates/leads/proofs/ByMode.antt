@@ -8,13 +8,14 @@ use native.Mathlib.Omega.{arith}
 use lib.ListN.{get_or}
 use lib.Dec.{ltb, eqb}
 use Rattle.lists.specs.Lists.{one}
-use Rattle.lists.specs.BelowLaws.{true_or_false, one_eqb}
+use Rattle.lists.proofs.BelowLaws.{true_or_false, one_eqb}
 use Rattle.netlist.specs.Net.{Net, size, element_at, is_input, is_output, Sourced}
 use Rattle.retiming.specs.Leads.{lead, closed_debt}
 use Rattle.retiming.specs.Rewrite.{timing, timing_by}
 use Rattle.retiming.specs.LateLeads.{at_output, late_ends, origin, first_lead, lead_to, closed_debt_to, owing_port_to}
 use Rattle.retiming.specs.LateRewrite.{timing_to_by, timing_to, late_timing}
-use Rattle.retiming.specs.Anywhere.{anywhere, closed_same, lead_same, owing_same}
+use Rattle.retiming.specs.Anywhere.{anywhere}
+use Rattle.retiming.proofs.Anywhere.{closed_same, lead_same, owing_same}
 use Rattle.retiming.specs.declared.Mode.{Mode}
 use Rattle.retiming.specs.declared.Mode.TheVariants.{Plain, Late}
 use Rattle.retiming.specs.Modes.{mode_ends, mode_closed, mode_owing, mode_timing}

@@ -7,10 +7,10 @@ use lib.ListN.{length, get_or}
 use lib.Dec.{eqb}
 use borrow.Author.Count.{below_more}
 use Rattle.lists.specs.Lists.{one}
-use Rattle.lists.specs.BelowLaws.{count_below-le}
+use Rattle.lists.proofs.BelowLaws.{count_below-le}
 use Rattle.netlist.specs.Net.{Net, size, element_at, source, operands, is_register, is_async, count_of, Sourced}
 use Rattle.circuit.specs.Code.{code_of}
-use Rattle.circuit.specs.CircuitLaws.{async_counted}
+use Rattle.circuit.proofs.CircuitLaws.{async_counted}
 use Rattle.retiming.specs.Leads.{async_here, register_here}
 use Rattle.retiming.specs.AtMostRoms.{rom_count}
 use Rattle.retiming.specs.LateLeads.{origin}

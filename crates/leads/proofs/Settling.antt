@@ -9,12 +9,12 @@ use lib.ListN.{get_or}
 use lib.Dec.{ltb}
 use borrow.Author.Tests.{ltb-true, ltb-false}
 use Rattle.lists.specs.Lists.{any_below, lowest}
-use Rattle.lists.specs.BelowLaws.{any_below_elim, any_below_none, lowest_from_is}
-use Rattle.lists.specs.SearchLaws.{Passed, lowest_here, lowest_past, lowest_bound}
+use Rattle.lists.proofs.BelowLaws.{any_below_elim, any_below_none, lowest_from_is}
+use Rattle.lists.proofs.SearchLaws.{Passed, lowest_here, lowest_past, lowest_bound}
 use Rattle.netlist.specs.Net.{Net, size, element_at, is_input, Sourced}
 use Rattle.netlist.specs.declared.Verdict.TheVariants.{Fine, Refuses}
 use Rattle.netlist.specs.Verdict.{at_lowest, of_whole, verdict}
-use Rattle.netlist.specs.Places.{skip, refuses}
+use Rattle.netlist.proofs.Places.{skip, refuses}
 use Rattle.retiming.specs.AtMostRoms.{rom_count}
 use Rattle.retiming.specs.LateLeads.{origin, closed_debt_to, owing_port_to}
 use Rattle.retiming.specs.declared.Mode.{Mode}

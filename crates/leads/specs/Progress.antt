@@ -3,10 +3,10 @@
 use Rattle.std.specs.Prelude.{◌≡◌, Bool, true, cond, List, ℕ, ◌+◌, ◌-◌, ◌≤◌, ◌<◌, length, get_or, set}
 use Rattle.std.proofs.Math.Path.{refl}
 use Rattle.std.proofs.Common.{sym, ap, subst, ◌∙◌, ⊎_elim, arith}
-use Rattle.lists.specs.BelowLaws.{true_or_false}
+use Rattle.lists.proofs.BelowLaws.{true_or_false}
 use Rattle.netlist.specs.Net.{Net, size, element_at, source, operands}
 use Rattle.retiming.specs.Leads.{async_here, register_here, Walk, here, step, leaves, enters}
-use Rattle.retiming.specs.Elements.{async_le}
+use Rattle.retiming.proofs.Elements.{async_le}
 use Rattle.retiming.specs.LateLeads.{origin, first_lead}
 use Rattle.leads.specs.Slack.{slack, slack-set}
 use Rattle.leads.specs.Stored.{after-set}

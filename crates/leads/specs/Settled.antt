@@ -2,15 +2,16 @@
 -- excess. Assumes nothing.
 use Rattle.std.specs.Prelude.{◌≡◌, Bool, true, false, List, ℕ, ◌+◌, ◌≤◌, ◌<◌, get_or}
 use Rattle.std.proofs.Common.{subst, ⊎_elim, arith}
-use Rattle.lists.specs.BelowLaws.{true_or_false}
+use Rattle.lists.proofs.BelowLaws.{true_or_false}
 use Rattle.netlist.specs.Net.{Net, size, Sourced}
 use Rattle.retiming.specs.Leads.{async_here, register_here}
-use Rattle.retiming.specs.AtMostRoms.{rom_count, late_at_most_roms}
+use Rattle.retiming.specs.AtMostRoms.{rom_count}
+use Rattle.retiming.proofs.AtMostRoms.{late_at_most_roms}
 use Rattle.retiming.specs.Rewrite.{Timing}
 use Rattle.retiming.specs.LateLeads.{origin, lead_to, closed_debt_to}
-use Rattle.retiming.specs.LateLeadsLaws.{lead_bounds_walk}
-use Rattle.retiming.specs.LateLargest.{told_debtless, leads_pinned}
-use Rattle.retiming.specs.LateSearch.{Searched, searched_tells}
+use Rattle.retiming.proofs.LateLeadsLaws.{lead_bounds_walk}
+use Rattle.retiming.proofs.LateLargest.{told_debtless, leads_pinned}
+use Rattle.retiming.proofs.LateSearch.{Searched, searched_tells}
 use Rattle.leads.specs.Progress.{Walked, Quiet}
 
 -- the numbers are those of a timing

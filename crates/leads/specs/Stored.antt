@@ -2,7 +2,7 @@
 use Rattle.std.specs.Prelude.{◌≡◌, refl, List, ℕ, suc, ◌+◌, ◌≤◌, ◌<◌, length, get_or, set}
 use Rattle.std.proofs.Common.{sym, ap, subst, ◌∙◌, ⊎_elim, arith, get_or-set_same, get_or-set_other}
 use Rattle.std.proofs.Math.Decide.{ℕ_discrete}
-use Rattle.lists.specs.BelowLaws.{lt-suc_split}
+use Rattle.lists.proofs.BelowLaws.{lt-suc_split}
 
 -- what holds of a place and its number
 pub after-set : (P : ℕ → ℕ → Type 0) (L : List ℕ) (i x : ℕ) → i < length L → P i x → (u : ℕ) → P u (get_or L u 0) → P u (get_or (set L i x) u 0)

@@ -1,13 +1,13 @@
 -- The operations by their number. Assumes nothing.
 use Rattle.std.specs.Prelude.{◌≡◌, refl, List, ℕ, ◌≤◌, get_or}
 use Rattle.std.proofs.Common.{sym, arith}
-use Rattle.lists.specs.Paths.{arms_eq}
+use Rattle.lists.proofs.Paths.{arms_eq}
 use Rattle.words.specs.declared.Op.{Op}
 use Rattle.words.specs.declared.Op.TheVariants.{Constant, Not, And, Or, Xor, Add, Subtract, Equal, Less, Choose, Part, Join}
 use Rattle.words.specs.Words.{operand_counts}
 use Rattle.netlist.specs.Net.{operands}
 use Rattle.netlist.specs.NodeField.{op_number}
-use Rattle.netlist.specs.NodeLaws.{plain_number}
+use Rattle.netlist.proofs.NodeLaws.{plain_number}
 use Rattle.netlist.specs.declared.Element.TheVariants.{Gate}
 use Rattle.nodes.specs.Unchecked.{op_unchecked}
 

@@ -1,8 +1,8 @@
 -- A content that names an element has room for the element's sources.
 use Rattle.std.specs.Prelude.{ℕ, ◌+◌, ◌*◌, ◌≤◌, ◌<◌, ◌≡◌, List, Bool, true, cond, length, get_or, leb, eqb}
 use Rattle.std.proofs.Common.{ap, subst, arith, leb→le, ne_eqb}
-use Rattle.lists.specs.Paths.{arms, arms_lt, arms_eq}
-use Rattle.lists.specs.TableRule.{at}
+use Rattle.lists.proofs.Paths.{arms, arms_lt, arms_eq}
+use Rattle.lists.proofs.TableRule.{at}
 use Rattle.words.specs.Gates.{operands_of}
 use Rattle.netlist.specs.Net.{rom, operands}
 use Rattle.words.specs.Words.{operand_counts, word}

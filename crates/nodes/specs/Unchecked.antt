@@ -2,7 +2,8 @@
 use Rattle.std.specs.Prelude.{◌≡◌, refl, true, false, List, ℕ, ◌≤◌, length, get_or, eqb}
 use Rattle.std.proofs.Common.{sym, ap, ◌∙◌, arith}
 use Rattle.std.proofs.lemmas.Bool.{false≢true}
-use Rattle.lists.specs.Paths.{pick, arms, arms_lt, arms_eq, on_eq, off_eq}
+use Rattle.lists.specs.Paths.{pick}
+use Rattle.lists.proofs.Paths.{arms, arms_lt, arms_eq, on_eq, off_eq}
 use Rattle.words.specs.Words.{word}
 use Rattle.words.specs.declared.Op.{Op}
 use Rattle.words.specs.declared.Op.TheVariants.{Constant, Part}

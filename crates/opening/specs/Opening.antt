@@ -9,8 +9,9 @@ use Rattle.netlist.specs.declared.Verdict.TheVariants.{Fine, Refuses}
 use Rattle.netlist.specs.File.{bad, good, decode}
 use Rattle.netlist.specs.Net.{nowhere}
 use Rattle.circuit.specs.Circuit.{circuit_words, row_node, row_at, nodes_of, net_of, Circuit}
-use Rattle.circuit.specs.CircuitLaws.{size-nodes, size-tables, table_place}
-use Rattle.circuit.specs.Building.{listed_same, Pushed, Built}
+use Rattle.circuit.proofs.CircuitLaws.{size-nodes, size-tables, table_place}
+use Rattle.circuit.specs.Building.{Pushed, Built}
+use Rattle.circuit.proofs.Building.{listed_same}
 
 -- no node yet, and the first t tables are entered
 pub record Heading (ts l : List ℕ) (t : ℕ) : Type 0 where

@@ -3,7 +3,8 @@ use Rattle.std.specs.Prelude.{◌≡◌, List, [], ◌∷◌, ℕ, ◌-◌, ◌�
 use Rattle.std.proofs.Math.Path.{sym, ap}
 use Rattle.std.proofs.Common.{subst, ◌∙◌, ⊎_elim, arith}
 use Rattle.std.proofs.Math.ListN.{length}
-use Rattle.lists.specs.Paths.{pick, off_eq}
+use Rattle.lists.specs.Paths.{pick}
+use Rattle.lists.proofs.Paths.{off_eq}
 use Rattle.words.specs.declared.Op.{Op}
 use Rattle.words.specs.declared.Op.TheVariants.{Part}
 use Rattle.netlist.specs.declared.Element.{Element}
@@ -11,10 +12,11 @@ use Rattle.netlist.specs.declared.Element.TheVariants.{Gate}
 use Rattle.netlist.specs.declared.Node.{Node}
 use Rattle.netlist.specs.Net.{node_at, element_at, width_at, source, size, operands}
 use Rattle.netlist.specs.NodeField.{plain_op}
-use Rattle.circuit.specs.Code.{Coded, code_of, op_by, element_by, number_or, table_or, coded, element_named}
+use Rattle.circuit.specs.Code.{Coded, code_of, op_by, element_by, number_or, table_or}
+use Rattle.circuit.proofs.CodeLaws.{coded, element_named}
 use Rattle.circuit.specs.Circuit.{field, at_code, at_number, at_table, row_node, net_of, Fits, Circuit}
-use Rattle.circuit.specs.CircuitLaws.{row_of, node_of, element_at_lem, code_at}
-use Rattle.circuit.specs.Building.{three_are}
+use Rattle.circuit.proofs.CircuitLaws.{row_of, node_of, element_at_lem, code_at}
+use Rattle.circuit.proofs.Building.{three_are}
 
 -- ---- the row of a node
 

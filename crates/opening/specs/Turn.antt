@@ -3,16 +3,19 @@ use Rattle.std.specs.Prelude.{◌≡◌, true, false, List, [], ◌∷◌, ◌++
 use Rattle.std.proofs.Math.Path.{refl, sym, ap}
 use Rattle.std.proofs.Common.{ap₂, subst, ◌∙◌, arith, length-append, eq-eqb}
 use Rattle.std.proofs.lemmas.List.{length-map}
-use Rattle.lists.specs.ListsLaws.{no_length, map-append}
-use Rattle.lists.specs.Paths.{pick, arms, on_true, on_lt, off_lt, on_eq, off_eq}
+use Rattle.lists.proofs.ListsLaws.{no_length, map-append}
+use Rattle.lists.specs.Paths.{pick}
+use Rattle.lists.proofs.Paths.{arms, on_true, on_lt, off_lt, on_eq, off_eq}
 use Rattle.netlist.specs.Scan.{table_step, node_step, end_step, Step, Refuse, TableField, NodeField, EndField, refused, found, follow, step_at, walk, scan}
-use Rattle.netlist.specs.ScanLaws.{NodeAt, table_step_lem, node_step_lem, walk_step, scan_found}
+use Rattle.netlist.specs.ScanLaws.{NodeAt}
+use Rattle.netlist.proofs.ScanLaws.{table_step_lem, node_step_lem, walk_step, scan_found}
 use Rattle.netlist.specs.File.{bad, good, node_in, net_in, decode, decoded}
 use Rattle.netlist.specs.declared.Node.{Node}
 use Rattle.netlist.specs.declared.Verdict.{Verdict}
 use Rattle.netlist.specs.declared.Verdict.TheVariants.{Fine, Refuses}
 use Rattle.circuit.specs.Circuit.{nodes_of}
-use Rattle.circuit.specs.Building.{Pushed, Built, built_net, built_circuit}
+use Rattle.circuit.specs.Building.{Pushed, Built}
+use Rattle.circuit.proofs.Building.{built_net, built_circuit}
 use Rattle.reader.specs.Head.{Headed}
 use Rattle.reader.specs.Fields.{whole, table_stands, node_stands, last_step, verdict_of, step_table, step_node, step_last}
 use Rattle.opening.specs.declared.Read.{Read}

@@ -10,8 +10,8 @@ use lib.ListN.{length, get_or, set, replicate, length-set, length-replicate}
 use lib.Seq.{get_or-set_same, get_or-set_other}
 use borrow.Author.Tests.{le-ltb}
 use Rattle.lists.specs.Lists.{one}
-use Rattle.lists.specs.BelowLaws.{lt-suc_split}
-use Rattle.lists.specs.Sections.{section_replicate, section-length, section-read, section-put, section_before, section-after, last_read, last_put}
+use Rattle.lists.proofs.BelowLaws.{lt-suc_split}
+use Rattle.lists.proofs.Sections.{section_replicate, section-length, section-read, section-put, section_before, section-after, last_read, last_put}
 use Rattle.netlist.specs.Net.{Class, Net, size, operands, within_clock, is_register, is_clocked, Sourced}
 use Rattle.netlist.specs.declared.Element.{Element}
 use Rattle.netlist.specs.declared.Element.TheVariants.{Input, Output, Register, Async, Clocked, Gate}

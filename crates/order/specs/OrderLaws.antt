@@ -5,10 +5,11 @@ use Rattle.std.proofs.Common.{sym, ap, ◌∙◌, ⊎_elim, true≢false, not-su
 use Prim.Native.Nat.{ℕ, zero, suc, ◌+◌, ◌≤◌, ◌<◌}
 use Rattle.std.proofs.lemmas.List.{length-replicate}
 use Rattle.lists.specs.Lists.{one, count_below}
-use Rattle.lists.specs.BelowLaws.{true_or_false, lt-suc_split, eqb-true, eqb_differ, all_below_elim, all_below_fails, any_below_intro, count_below-le}
-use Rattle.lists.specs.SearchLaws.{count_one_more, count_less}
+use Rattle.lists.proofs.BelowLaws.{true_or_false, lt-suc_split, eqb-true, eqb_differ, all_below_elim, all_below_fails, any_below_intro, count_below-le}
+use Rattle.lists.proofs.SearchLaws.{count_one_more, count_less}
 use Rattle.netlist.specs.Net.{Class, Net, size, element_at, source, Sourced}
-use Rattle.netlist.specs.Rank.{ReadsIn, Through, once, then, unsettled, unsettled_loop}
+use Rattle.netlist.specs.Rank.{ReadsIn, Through, once, then, unsettled}
+use Rattle.netlist.proofs.Rank.{unsettled_loop}
 use Rattle.order.specs.Pass.{on, Waiting}
 use Rattle.circuit.specs.Order.{Stands, Ordered, Complete}
 use Rattle.order.specs.Order.{Placed, ready, Outcome}

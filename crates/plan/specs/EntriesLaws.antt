@@ -11,17 +11,17 @@ use Rattle.std.proofs.Math.Seq.{set_out, get_or-append_seam}
 use Rattle.std.proofs.Math.Dec.{ltb}
 use borrow.Author.Tests.{eq-eqb, ne_eqb, lt-ltb, le-ltb}
 use Rattle.lists.specs.Lists.{below, concat_map, only, has, add_new, distinct_from, distinct}
-use Rattle.lists.specs.BelowLaws.{true_or_false, lt_or_le, get_or_map-lt, lt-suc_split}
-use Rattle.lists.specs.ListsLaws.{get_or_has, map-append}
-use Rattle.lists.specs.Sections.{section-length, section-put, section_before, section-after}
+use Rattle.lists.proofs.BelowLaws.{true_or_false, lt_or_le, get_or_map-lt, lt-suc_split}
+use Rattle.lists.proofs.ListsLaws.{get_or_has, map-append}
+use Rattle.lists.proofs.Sections.{section-length, section-put, section_before, section-after}
 use Rattle.netlist.specs.declared.Element.{Element}
 use Rattle.netlist.specs.declared.Element.TheVariants.{Input, Output, Register, Async, Clocked, Gate}
 use Rattle.netlist.specs.Net.{Net, size, element_at, source, is_register, is_memory}
-use Rattle.netlist.specs.NodeLaws.{few_operands}
+use Rattle.netlist.proofs.NodeLaws.{few_operands}
 use Rattle.behaviour.specs.Run.{zero_word}
 use Rattle.retiming.specs.Rewrite.{Timing, Place, Entry, Reg, root, memory_at, stays, copy_on, copies_at, copies_of, copies, entries_of, entry_places}
 use Rattle.retiming.specs.Layout.{no_place}
-use Rattle.lists.specs.Threes.{concat_next, concat_longer, in_row, row_of_three, in_threes}
+use Rattle.lists.proofs.Threes.{concat_next, concat_longer, in_row, row_of_three, in_threes}
 use Rattle.wiring.specs.Wiring.{wire_count, wire_at, WiredTo, Copied}
 use Rattle.wiring.specs.WiringLaws.{wires_few, count_wires, by_wires}
 use Rattle.wiring.specs.Links.{From}

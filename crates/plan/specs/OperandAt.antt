@@ -1,9 +1,9 @@
 -- The wires of an entry, operand by operand: their places among the new wires, as the code reads them. Assumes nothing.
 use Rattle.std.specs.Prelude.{◌≡◌, List, ℕ, zero, suc, ◌+◌, ◌-◌, ◌*◌, ◌/◌, ◌%◌, ◌≤◌, ◌<◌, get_or}
 use Rattle.std.proofs.Common.{sym, ap, ap₂, subst, ◌∙◌, arith}
-use Rattle.lists.specs.Sections.{section-read}
+use Rattle.lists.proofs.Sections.{section-read}
 use Rattle.netlist.specs.Net.{Net, element_at, source, operands}
-use Rattle.netlist.specs.NodeLaws.{few_operands}
+use Rattle.netlist.proofs.NodeLaws.{few_operands}
 use Rattle.retiming.specs.Rewrite.{Timing}
 use Rattle.plan.specs.Areas.{owners_in}
 use Rattle.plan.specs.Registers.{entry_count}

@@ -1,7 +1,7 @@
 -- Entries placed node by node. Assumes nothing.
 use Rattle.std.specs.Prelude.{◌≡◌, refl, false, List, ℕ, ◌+◌, ◌≤◌, ◌<◌, length, set}
 use Rattle.std.proofs.Common.{sym, subst, ◌∙◌, arith}
-use Rattle.lists.specs.Sections.{section-length}
+use Rattle.lists.proofs.Sections.{section-length}
 use Rattle.netlist.specs.Net.{Net}
 use Rattle.retiming.specs.Rewrite.{Timing}
 use Rattle.plan.specs.Areas.{owners_in, words_in, late_in, firsts_in}

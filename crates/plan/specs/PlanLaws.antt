@@ -5,12 +5,12 @@ use Rattle.std.proofs.Math.Path.{ap}
 use Rattle.std.proofs.Math.Logic.{⊎_elim}
 use mathlib.Core.List.{List}
 use Rattle.std.proofs.Math.ListN.{get_or, get_or-replicate}
-use Rattle.lists.specs.Sections.{section-length, section_replicate}
-use Rattle.lists.specs.BelowLaws.{true_or_false, lt_or_le}
+use Rattle.lists.proofs.Sections.{section-length, section_replicate}
+use Rattle.lists.proofs.BelowLaws.{true_or_false, lt_or_le}
 use Rattle.netlist.specs.Net.{Net, size}
 use Rattle.behaviour.specs.Run.{zero_word}
 use Rattle.retiming.specs.Rewrite.{Timing, Place, root, memory_at, count_on, copy_on, word_from, reset_word, entry_places, reg_places, places}
-use Rattle.retiming.specs.Candidate.{word_before, word_after}
+use Rattle.retiming.proofs.Candidate.{word_before, word_after}
 use Rattle.first_clocks.specs.Wanted.{OfNodes, Taken}
 use Rattle.wires.specs.Traced.{roots_in, passes_in}
 use Rattle.wiring.specs.Wiring.{Ready, Timed, ends_in, froms_in, clocks_in, heads_in, Entered, count_from_lem, asked_clock, source_of, wire_at, last_clock, Wired, WiredTo, Copied}

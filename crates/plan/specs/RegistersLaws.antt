@@ -10,13 +10,14 @@ use Rattle.std.proofs.Math.Seq.{get_or-append-add}
 use Rattle.std.proofs.Math.Dec.{ltb}
 use borrow.Author.Tests.{lt-ltb, le-ltb}
 use Rattle.lists.specs.Lists.{has}
-use Rattle.lists.specs.Sections.{section-length, section-read}
-use Rattle.lists.specs.BelowLaws.{lt_or_le, lt-suc_split, length_listed, get_or_listed}
+use Rattle.lists.proofs.Sections.{section-length, section-read}
+use Rattle.lists.proofs.BelowLaws.{lt_or_le, lt-suc_split, length_listed, get_or_listed}
 use Rattle.netlist.specs.Net.{Net, size, element_at, source, operands, Sourced}
 use Rattle.behaviour.specs.Run.{zero_word}
 use Rattle.retiming.specs.Rewrite.{Timing, Place, Entry, Reg, root, count_on, copy_on, copies, stays, regs_on, entry_places, number_of, along}
-use Rattle.retiming.specs.Layout.{no_place, Stands, root_stands, stays_if, copy_on_lem, along_reg, along-end}
-use Rattle.retiming.specs.Wires.{root_within}
+use Rattle.retiming.specs.Layout.{no_place, Stands}
+use Rattle.retiming.proofs.LayoutLaws.{root_stands, stays_if, copy_on_lem, along_reg, along-end}
+use Rattle.retiming.proofs.Wires.{root_within}
 use Rattle.wires.specs.Traced.{roots_in, passes_in}
 use Rattle.wiring.specs.Wiring.{ends_in, count_from, count_from_lem, asked_clock, wire_count, source_of, wire_at}
 use Rattle.wiring.specs.WiringLaws.{count_kept}

@@ -2,8 +2,9 @@
 use Rattle.std.specs.Prelude.{◌≡◌, refl, List, ℕ, zero, suc, ◌+◌, ◌-◌, ◌*◌, ◌≤◌, ◌<◌, length, get_or, set}
 use Rattle.std.proofs.Common.{sym, ap, subst, ◌∙◌, ⊎_elim, not-suc-le-zero, arith, get_or-set_same, get_or-set_other}
 use Rattle.std.proofs.Math.Seq.{set_out}
-use Rattle.lists.specs.BelowLaws.{lt-suc_split}
-use Rattle.lists.specs.Sections.{section, section-length, section-put, section_before, section-after}
+use Rattle.lists.proofs.BelowLaws.{lt-suc_split}
+use Rattle.lists.specs.Sections.{section}
+use Rattle.lists.proofs.Sections.{section-length, section-put, section_before, section-after}
 use Rattle.wiring.specs.Wiring.{asked_clock}
 use Rattle.plan.specs.Areas.{owners_in, words_in, late_in, firsts_in, sources_in}
 use Rattle.plan.specs.Registers.{behind, PutsTo}

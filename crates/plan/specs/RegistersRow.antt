@@ -9,17 +9,18 @@ use native.Mathlib.Omega.{arith}
 use Rattle.std.proofs.Math.ListN.{length, get_or, length-append, get_or-append}
 use Rattle.std.proofs.lemmas.List.{length-map}
 use Rattle.lists.specs.Lists.{up_from, below, concat_map, offset, has, find}
-use Rattle.lists.specs.BelowLaws.{true_or_false, lt_or_le, eqb_self, get_or_map-lt, take_up_from}
-use Rattle.lists.specs.ListsLaws.{concat_map-concat_map, concat_map-below_get_or, concat_map-cong, get_or_concat_below, offset-below-lt, find-lt, get_or_find}
+use Rattle.lists.proofs.BelowLaws.{true_or_false, lt_or_le, eqb_self, get_or_map-lt, take_up_from}
+use Rattle.lists.proofs.ListsLaws.{concat_map-concat_map, concat_map-below_get_or, concat_map-cong, get_or_concat_below, offset-below-lt, find-lt, get_or_find}
 use Rattle.netlist.specs.declared.Element.{Element}
 use Rattle.netlist.specs.declared.Element.TheVariants.{Input, Output, Register, Async, Clocked, Gate}
 use Rattle.netlist.specs.Net.{Net, size, element_at, operands, is_register}
-use Rattle.netlist.specs.NodeLaws.{few_operands}
+use Rattle.netlist.proofs.NodeLaws.{few_operands}
 use Rattle.behaviour.specs.Run.{zero_word}
 use Rattle.retiming.specs.Rewrite.{Timing, Place, Entry, Reg, copies, entries_of, wires_of, wires_all, wire_places, regs_on, entry_places, reg_places, places, number_of}
-use Rattle.retiming.specs.Layout.{no_place, Stands, Sound, places_sound}
-use Rattle.retiming.specs.Numbers.{number_of_place}
-use Rattle.lists.specs.Threes.{concat_next, concat-after, concat_longer, row_of_three, in_threes}
+use Rattle.retiming.specs.Layout.{no_place, Stands, Sound}
+use Rattle.retiming.proofs.LayoutLaws.{places_sound}
+use Rattle.retiming.proofs.Numbers.{number_of_place}
+use Rattle.lists.proofs.Threes.{concat_next, concat-after, concat_longer, row_of_three, in_threes}
 use Rattle.wiring.specs.Wiring.{wires_to}
 use Rattle.plan.specs.Entries.{Finds, Stored, entries_before}
 use Rattle.plan.specs.EntriesLaws.{longer_after, entries_all}

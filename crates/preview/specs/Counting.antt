@@ -11,14 +11,15 @@ use Rattle.std.proofs.lemmas.List.{length-replicate, get_or-replicate}
 use Rattle.std.proofs.Math.Seq.{get_or-set_same, get_or-set_other}
 use Rattle.std.proofs.Math.Dec.{eqb}
 use Rattle.lists.specs.Lists.{below, one, count_below}
-use Rattle.lists.specs.BelowLaws.{eqb_self, length_listed, get_or_listed, count_below-le}
+use Rattle.lists.proofs.BelowLaws.{eqb_self, length_listed, get_or_listed, count_below-le}
 use Rattle.words.specs.Words.{word, put_word}
 use Rattle.netlist.specs.Net.{Net, size, element_at, source, is_register}
 use Rattle.behaviour.specs.Service.{bytes_of}
-use Rattle.behaviour.specs.WordBytes.{word_front, put_front}
+use Rattle.behaviour.proofs.WordBytes.{word_front, put_front}
 use Rattle.retiming.specs.Rewrite.{root}
 use Rattle.retiming.specs.BySource.{on_wire_from, registers_from}
-use Rattle.retiming.specs.RegistersLast.{RegistersLast, source_list}
+use Rattle.retiming.specs.RegistersLast.{RegistersLast}
+use Rattle.retiming.proofs.RegistersLast.{source_list}
 use Rattle.retiming.specs.Preview.{source_bytes}
 
 -- ---- bytes set to 0

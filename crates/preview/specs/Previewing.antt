@@ -8,20 +8,20 @@ use Rattle.netlist.specs.Verdict.{onward}
 use Rattle.netlist.specs.File.{decode, decoded_net, encode}
 use Rattle.netlist.specs.declared.Verdict.{Verdict}
 use Rattle.codec.specs.Bytes.{Bytes}
-use Rattle.behaviour.specs.WordBytes.{length-bytes}
+use Rattle.behaviour.proofs.WordBytes.{length-bytes}
 use Rattle.circuit.specs.Code.{code_of}
 use Rattle.circuit.specs.Circuit.{net_of}
-use Rattle.circuit.specs.CircuitLaws.{registers_counted, clocked_counted}
+use Rattle.circuit.proofs.CircuitLaws.{registers_counted, clocked_counted}
 use Rattle.retiming.specs.declared.Size.{Size}
 use Rattle.retiming.specs.declared.Preview.TheVariants.{Fits, Refused}
 use Rattle.retiming.specs.FileRewrite.{out_verdict}
-use Rattle.retiming.specs.OutLaws.{out_short, out_long}
+use Rattle.retiming.proofs.OutLaws.{out_short, out_long}
 use Rattle.retiming.specs.Rewrite.{rewritten}
 use Rattle.retiming.specs.BySource.{by_source}
-use Rattle.retiming.specs.BySourceLaws.{sources_others}
+use Rattle.retiming.proofs.BySourceLaws.{sources_others}
 use Rattle.retiming.specs.RegistersLast.{RegistersLast}
-use Rattle.retiming.specs.RewrittenFile.{past_13}
-use Rattle.retiming.specs.NewRegisters.{new_last}
+use Rattle.retiming.proofs.RewrittenFile.{past_13}
+use Rattle.retiming.proofs.NewRegisters.{new_last}
 use Rattle.retiming.specs.Preview.{measured, size_of, Previewed, previewed_by, source_bytes, previewed, preview_file}
 use Rattle.retiming.specs.declared.Mode.TheVariants.{Plain}
 use Rattle.retime.specs.declared.Retimed.{Retimed}

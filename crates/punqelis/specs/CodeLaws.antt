@@ -2,7 +2,7 @@
 use Rattle.std.specs.Prelude.{◌≡◌, List, ℕ, ◌≤◌, length}
 use Rattle.std.proofs.Common.{sym, ap, ◌∙◌, arith}
 use Rattle.netlist.specs.Scan.{Scan, refused, found, scan}
-use Rattle.netlist.specs.ScanLaws.{scan_found}
+use Rattle.netlist.proofs.ScanLaws.{scan_found}
 use Rattle.netlist.specs.Verdict.{reader_verdict}
 use Rattle.netlist.specs.File.{net_in, decoded, judged, decode, file_verdict, answer, check_answer}
 use Rattle.netlist.specs.declared.Answer.{Answer}

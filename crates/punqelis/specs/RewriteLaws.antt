@@ -1,7 +1,7 @@
 -- A rewritten file of either mode is shorter than 65,536 bytes, and so is one that is previewed. Assumes nothing.
 use Rattle.std.specs.Prelude.{◌≡◌, refl, true, false, List, ℕ, ◌≤◌, length, ltb}
 use Rattle.std.proofs.Common.{sym, subst, ⊎_elim, arith}
-use Rattle.lists.specs.BelowLaws.{true_or_false}
+use Rattle.lists.proofs.BelowLaws.{true_or_false}
 use Rattle.netlist.specs.declared.Verdict.{Verdict}
 use Rattle.netlist.specs.declared.Verdict.TheVariants.{Fine, Refuses}
 use Rattle.codec.specs.Bytes.{Bytes}
@@ -11,9 +11,9 @@ use Rattle.retiming.specs.declared.Preview.TheVariants as preview
 use Rattle.retiming.specs.declared.Mode.{Mode}
 use Rattle.retiming.specs.FileRewrite.{Rewrote, written, written_after}
 use Rattle.retiming.specs.Modes.{mode_file_verdict, mode_file, mode_rewrite}
-use Rattle.retiming.specs.RewrittenFile.{mode_rewrite_lem, past_13, new-length}
+use Rattle.retiming.proofs.RewrittenFile.{mode_rewrite_lem, past_13, new-length}
 use Rattle.retiming.specs.Preview.{preview_file}
-use Rattle.retiming.specs.PreviewLaws.{fits_within}
+use Rattle.retiming.proofs.PreviewLaws.{fits_within}
 use Rattle.punqelis.specs.Code.{answer_of}
 use Rattle.punqelis.specs.CodeLaws.{LengthWithin, accepted_within, refused_within}
 

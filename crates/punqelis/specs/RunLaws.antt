@@ -4,14 +4,14 @@ use Rattle.std.proofs.Math.Path.{refl}
 use Rattle.std.proofs.Math.Logic.{⊎_elim}
 use Rattle.std.proofs.Common.{arith}
 use Rattle.lists.specs.Lists.{select}
-use Rattle.lists.specs.BelowLaws.{true_or_false, and_right, eqb-true, count_below-le}
-use Rattle.lists.specs.ListsLaws.{length-select}
+use Rattle.lists.proofs.BelowLaws.{true_or_false, and_right, eqb-true, count_below-le}
+use Rattle.lists.proofs.ListsLaws.{length-select}
 use Rattle.netlist.specs.Net.{Net, size, element_at, width_at, is_output, holds_word}
 use Rattle.netlist.specs.Scan.{Scan, refused, found, scan}
-use Rattle.netlist.specs.ScanLaws.{scan_found}
+use Rattle.netlist.proofs.ScanLaws.{scan_found}
 use Rattle.netlist.specs.Verdict.{onward, reader_verdict}
 use Rattle.netlist.specs.File.{net_in, decoded, decode, decoded_net, judged, file_verdict}
-use Rattle.netlist.specs.FileLaws.{size_in}
+use Rattle.netlist.proofs.FileLaws.{size_in}
 use Rattle.netlist.specs.declared.Verdict.{Verdict}
 use Rattle.netlist.specs.declared.Verdict.TheVariants.{Fine, Refuses}
 use Rattle.behaviour.specs.Runs.{input_widths, output_widths, state_widths}

@@ -7,15 +7,16 @@ use native.Mathlib.Omega.{arith}
 use lib.ListN.{length, get_or}
 use lib.Dec.{ltb, eqb}
 use borrow.Author.Tests.{ltb-true, eqb-true, eqb-false}
-use Rattle.lists.specs.Paths.{pick, arms_eq, on_eq, off_eq}
+use Rattle.lists.specs.Paths.{pick}
+use Rattle.lists.proofs.Paths.{arms_eq, on_eq, off_eq}
 use Rattle.words.specs.Words.{word}
 use Rattle.words.specs.declared.Op.{Op}
 use Rattle.words.specs.declared.Op.TheVariants.{Constant, Part}
 use Rattle.netlist.specs.Net.{rom, operands}
 use Rattle.netlist.specs.Field.{length_at, content}
 use Rattle.netlist.specs.NodeField.{gate_length, first_source, sources_from, node_read, node_with}
-use Rattle.netlist.specs.NodeLaws.{node_facts}
-use Rattle.netlist.specs.FieldLaws.{content-length, byte_in, word_in}
+use Rattle.netlist.proofs.NodeLaws.{node_facts}
+use Rattle.netlist.proofs.FieldLaws.{content-length, byte_in, word_in}
 use Rattle.netlist.specs.ScanLaws.{NodeAt}
 use Rattle.netlist.specs.File.{node_in}
 use Rattle.netlist.specs.declared.Element.{Element}

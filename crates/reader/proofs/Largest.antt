@@ -11,7 +11,7 @@ use lib.Seq.{get_or-drop, take_all}
 use lib.Dec.{ltb}
 use borrow.Author.Tests.{lt-ltb, le-ltb}
 use Rattle.lists.specs.Lists.{largest, all_below}
-use Rattle.lists.specs.BelowLaws.{lt_or_le, all_below_intro}
+use Rattle.lists.proofs.BelowLaws.{lt_or_le, all_below_intro}
 use Rattle.words.specs.Words.{fits, word}
 use Rattle.netlist.specs.TableField.{word_at, words_fit}
 

@@ -7,8 +7,9 @@ use Rattle.std.proofs.Math.Bool.{Bool, true}
 use Rattle.std.proofs.lemmas.Bool.{false≢true}
 use Rattle.std.proofs.Math.ListN.{length}
 use borrow.Author.Tests.{eqb-true, eq-eqb}
-use Rattle.lists.specs.Paths.{pick, arms, arms_lt, arms_eq, on_true, on_false, on_lt, off_lt, on_eq, off_eq}
-use Rattle.lists.specs.BelowLaws.{lt_or_le}
+use Rattle.lists.specs.Paths.{pick}
+use Rattle.lists.proofs.Paths.{arms, arms_lt, arms_eq, on_true, on_false, on_lt, off_lt, on_eq, off_eq}
+use Rattle.lists.proofs.BelowLaws.{lt_or_le}
 use Rattle.netlist.specs.Field.{tag_at, field_end}
 use Rattle.netlist.specs.declared.Verdict.{Verdict}
 use Rattle.netlist.specs.declared.Verdict.TheVariants.{Fine, Refuses}

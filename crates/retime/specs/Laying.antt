@@ -8,7 +8,7 @@ use borrow.Author.Tests.{lt-ltb, le-ltb}
 use Rattle.netlist.specs.Net.{Net, size}
 use Rattle.netlist.specs.Checks.{HasTables, WellFormed}
 use Rattle.netlist.specs.Verdict.{of_whole, verdict, onward}
-use Rattle.netlist.specs.VerdictLaws.{fine_clear}
+use Rattle.netlist.proofs.VerdictLaws.{fine_clear}
 use Rattle.netlist.specs.File.{Decoded, decode, decoded_net, judged, file_verdict}
 use Rattle.netlist.specs.declared.Verdict.{Verdict}
 use Rattle.netlist.specs.declared.Verdict.TheVariants.{Fine, Refuses}
@@ -20,14 +20,14 @@ use Rattle.retiming.specs.declared.Mode.TheVariants.{Plain, Late}
 use Rattle.retiming.specs.Leads.{closed_debt}
 use Rattle.retiming.specs.Rewrite.{timing}
 use Rattle.retiming.specs.Gates.{spots, gated_with}
-use Rattle.retiming.specs.Candidate.{size-new}
-use Rattle.retiming.specs.Retimed.{retimed_alike}
-use Rattle.retiming.specs.PastDebt.{bounded}
+use Rattle.retiming.proofs.Candidate.{size-new}
+use Rattle.retiming.proofs.Retimed.{retimed_alike}
+use Rattle.retiming.proofs.PastDebt.{bounded}
 use Rattle.retiming.specs.Debt.{grown}
 use Rattle.retiming.specs.Preview.{largest_lead_of}
 use Rattle.retiming.specs.Modes.{mode_closed, mode_owing, mode_timing, mode_trimmed, mode_net, mode_verdict, mode_file_verdict}
-use Rattle.retiming.specs.ModeLaws.{mode_size, mode_suits, mode_net_lem}
-use Rattle.retiming.specs.RewrittenFile.{mode_judged}
+use Rattle.retiming.proofs.ModeLaws.{mode_size, mode_suits, mode_net_lem}
+use Rattle.retiming.proofs.RewrittenFile.{mode_judged}
 use Rattle.leads.specs.Debts.{debts_verdict, debts_first}
 use Rattle.leads.specs.Settled.{LeadsIn}
 use Rattle.wires.specs.Traced.{roots_in, passes_in, AllTraced}

@@ -1,28 +1,20 @@
 -- The bench netlists of document 01 that are marked P, and one of T-02 and one of T-03, in one list: a file's bytes in; the refusal, or the rewritten bytes, the leads and the output words of the
 -- first clocks out; the preview, with the registers by source; and these by reader, counted in the new file. One computation checks them all. Assumes nothing.
-use Rattle.std.specs.Prelude.{◌≡◌, refl, true, not, List, [], ◌∷◌, ◌++◌, map, ℕ, ◌*◌, ◌≤◌, length, get_or, take, drop, replicate, ltb}
-use Rattle.std.proofs.Common.{⊎_elim, lit<, ltb-true}
-use Rattle.std.proofs.Math.ListN.{get_or-eq_default}
-use Rattle.lists.specs.Lists.{below, select, all_below}
-use Rattle.lists.specs.BelowLaws.{lt_or_le, all_below_elim}
+use Rattle.std.specs.Prelude.{not, List, [], ◌∷◌, ◌++◌, map, ℕ, ◌*◌, length, take, drop, replicate}
+use Rattle.lists.specs.Lists.{select}
 use Rattle.netlist.specs.Net.{size, element_at, is_register}
 use Rattle.netlist.specs.File.{Decoded, bad, good, decode}
-use Rattle.netlist.specs.Offsets.{fields_of, offset_of}
 use Rattle.netlist.specs.declared.Answer.{Answer}
 use Rattle.netlist.specs.declared.Answer.TheVariants.{Accepted, Refused}
-use Rattle.codec.specs.Bytes.{Bytes}
-use Rattle.behaviour.specs.Service.{bytes_of, words_in, reset_file, Entry, runs_file}
+use Rattle.behaviour.specs.Service.{bytes_of, words_in, reset_file, runs_file}
 use Rattle.behaviour.specs.Entries.{state_bytes}
 use Rattle.retiming.specs.declared.Preview.{Preview}
 use Rattle.retiming.specs.declared.Preview.TheVariants.{Fits}
 use Rattle.retiming.specs.declared.Preview.TheVariants as preview
 use Rattle.retiming.specs.Leads.{lead}
-use Rattle.retiming.specs.FileRewrite.{Rewrote, rewritten_file, rewrite_file}
+use Rattle.retiming.specs.FileRewrite.{Rewrote, rewrite_file}
 use Rattle.retiming.specs.BySource.{by_reader}
 use Rattle.retiming.specs.Preview.{Previewed, preview_file}
-use Rattle.retiming.specs.Demand3.{demand_3}
-use Rattle.retiming.specs.RunningOffset.{new_net}
-use Rattle.retiming.specs.Computing.{computing}
 
 -- ---- what is asked of a file
 
@@ -46,17 +38,17 @@ pub record Case : Type 0 where
 
 -- ---- what the definitions say
 
-leads_in_lem : Decoded → List ℕ
+unfoldable pub leads_in_lem : Decoded → List ℕ
 leads_in_lem (bad k p) = []
 leads_in_lem (good N) = select (λ v. not (is_register (element_at N v))) (lead N) (size N)
 
 -- the registers by reader of a file's netlist
-readers_in : Decoded → List ℕ
+unfoldable pub readers_in : Decoded → List ℕ
 readers_in (bad k p) = []
 readers_in (good M) = by_reader M
 
 -- the list that the preview is lent: room for five numbers and one byte
-lent : List ℕ
+unfoldable pub lent : List ℕ
 lent = replicate 11 255
 
 -- the output words of these clocks from reset on; the lent state and the lent output lists are full of ones
@@ -73,7 +65,7 @@ pub record Found : Type 0 where
   pub old : List (List ℕ)
   pub new : List (List ℕ)
 
-found_by : Rewrote → Answer → Case → Found
+unfoldable pub found_by : Rewrote → Answer → Case → Found
 found_by r (Refused k p) c = record { previewed = preview_file c.file lent; gives = refusal k p; readers = []; old = []; new = [] }
 found_by r (Accepted n) c = record {
   previewed = preview_file c.file lent;
@@ -83,10 +75,10 @@ found_by r (Accepted n) c = record {
   new = output_words (take n r.out) c.clocks;
 }
 
-pub found : Case → Found
+unfoldable pub found : Case → Found
 found c = let r = rewrite_file c.file (replicate 100 0) in found_by r r.answer c
 
-pub expected : Case → Found
+unfoldable pub expected : Case → Found
 expected c = record {
   previewed = record { preview = c.preview; list = bytes_of c.sources ++ drop (2 * length c.sources) lent };
   gives = c.gives;
@@ -109,7 +101,7 @@ unfoldable pub refused : List ℕ → ℕ → ℕ → Case
 refused file k p = record { file = file; clocks = []; gives = refusal k p; preview = preview.Refused k p; sources = []; readers = [] }
 
 -- empty: `01 00 01 01 04 00 00` gives itself
-empty : Case
+unfoldable pub empty : Case
 empty = record {
   file =
       0x01 ∷ 0x00 ∷ 0x01 ∷ 0x01
@@ -155,11 +147,11 @@ adder_over table n = record {
 unfoldable pub adder : Case
 adder = adder_over (0x02 ∷ 0x00 ∷ 0x0A ∷ 0x02 ∷ 0x02 ∷ 0x00 ∷ 0x03 ∷ 0x00 ∷ 0x01 ∷ 0x00 ∷ 0x02 ∷ 0x00 ∷ 0x02 ∷ []) 65
 
-filled_adder : Case
+unfoldable pub filled_adder : Case
 filled_adder = adder_over (0x05 ∷ 0x00 ∷ 0x08 ∷ 0x02 ∷ 0x02 ∷ 0x00 ∷ 0x02 ∷ 0x00 ∷ 0x03 ∷ 0x00 ∷ 0x01 ∷ []) 63
 
 -- toggle: the clocked ROM reads itself and resets to 1; outputs 1,0,1,0
-toggle : Case
+unfoldable pub toggle : Case
 toggle = record {
   file =
       0x01 ∷ 0x00 ∷ 0x01 ∷ 0x01
@@ -194,7 +186,7 @@ bare =
     12 0
 
 -- input, register, asynchronous ROM, output: accepted, reset word M[register's reset]. The register resets to 3, and M[3] is 2
-before : Case
+unfoldable pub before : Case
 before = record {
   file =
       0x01 ∷ 0x00 ∷ 0x01 ∷ 0x01
@@ -219,7 +211,7 @@ before = record {
 }
 
 -- input, asynchronous ROM, register, output: accepted, with the register's reset: 1, where M[1] is 2 and M[0] is 3
-behind : Case
+unfoldable pub behind : Case
 behind = record {
   file =
       0x01 ∷ 0x00 ∷ 0x01 ∷ 0x01
@@ -244,7 +236,7 @@ behind = record {
 }
 
 -- one asynchronous ROM read by two registers reset 1 and 2: two clocked ROMs
-split : Case
+unfoldable pub split : Case
 split = record {
   file =
       0x01 ∷ 0x00 ∷ 0x01 ∷ 0x01
@@ -300,7 +292,7 @@ owing =
     11 65535
 
 -- T-03: input, two registers in a row, output. Both are the input's, and both stand on the output's wire; the first is read by no other node than the second
-row : Case
+unfoldable pub row : Case
 row = record {
   file =
       0x01 ∷ 0x00 ∷ 0x01 ∷ 0x01
@@ -323,27 +315,5 @@ row = record {
   readers = 0 ∷ 2 ∷ [];
 }
 
-pub bench : List Case
+unfoldable pub bench : List Case
 bench = empty ∷ adder ∷ toggle ∷ bare ∷ before ∷ behind ∷ split ∷ turned ∷ owing ∷ filled_adder ∷ row ∷ []
-
--- THE THEOREM
-pub bench_holds : map found bench ≡ map expected bench
-unfolding computing leads_in_lem readers_in lent output_words found_by found expected clock sized refused adder_over empty adder toggle bare before behind split turned owing filled_adder row bench
-bench_holds = refl
-
--- T-04: the offsets of the new adder's fields, the head's, its table's, its five nodes', the end's, and behind that the file's length
-adder_offsets : map (offset_of (new_net adder.file)) (below 9) ≡ 0 ∷ 4 ∷ 17 ∷ 27 ∷ 37 ∷ 44 ∷ 53 ∷ 62 ∷ 65 ∷ []
-unfolding computing adder adder_over clock sized fields_of offset_of
-adder_offsets = refl
-
--- ---- and not for the first clocks alone: demand 3, for instance of the adder
-
-pub byte_list : (s : List ℕ) → all_below (length s) (λ i. ltb (get_or s i 0) 256) ≡ true → Bytes s
-byte_list s t i =
-    ⊎_elim (λ h. ltb-true (get_or s i 0) 256 (all_below_elim (length s) (λ j. ltb (get_or s j 0) 256) t i h)) (λ (h : length s ≤ i). rw (get_or-eq_default s 0 h) (lit< tt)) (lt_or_le i (length s))
-
-adder_for_ever : (es : List Entry)
-    → runs_file adder.file (reset_file adder.file (0 ∷ 0 ∷ [])).state es
-    ≡ runs_file (rewritten_file adder.file) (reset_file (rewritten_file adder.file) (0 ∷ 0 ∷ 0 ∷ 0 ∷ 0 ∷ 0 ∷ [])).state es
-unfolding computing adder adder_over clock sized
-adder_for_ever es = (((demand_3 adder.file (rewritten_file adder.file) (byte_list adder.file refl) refl refl).3 (0 ∷ 0 ∷ []) (0 ∷ 0 ∷ 0 ∷ 0 ∷ 0 ∷ 0 ∷ []) refl refl).2 es).0

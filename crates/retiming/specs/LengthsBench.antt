@@ -1,81 +1,52 @@
 -- T-07 by computation: the adder's loop, and from port to port of the netlist with the not gate, late-started. Assumes nothing.
-use Rattle.std.specs.Prelude.{◌≡◌, refl, List, [], ◌∷◌, map, ℕ}
-use Rattle.std.proofs.Common.{◌∙◌, lit<}
-use Rattle.lists.specs.Lists.{below}
+use Rattle.std.specs.Prelude.{refl, List, ℕ}
+use Rattle.std.proofs.Common.{lit<}
 use Rattle.netlist.specs.Net.{Net}
 use Rattle.netlist.specs.File.{decode, decoded_net}
-use Rattle.retiming.specs.declared.Mode.TheVariants.{Plain, Late}
 use Rattle.retiming.specs.Leads.{Walk, here, step}
 use Rattle.retiming.specs.FileRewrite.{rewritten_file}
 use Rattle.retiming.specs.LateFile.{late_file}
-use Rattle.retiming.specs.Lengths.{latency, pin, pins, itself, comes_from_by, comes_from}
 use Rattle.retiming.specs.Computing.{computing}
-use Rattle.retiming.specs.LoopLengths.{loops_keep_their_length}
-use Rattle.retiming.specs.Bench.{clock, sized, refused, adder, adder_over, turned, byte_list}
+use Rattle.retiming.specs.Bench.{clock, sized, refused, adder, adder_over, turned}
 
-unfoldable net_in : List ℕ → Net
+unfoldable pub net_in : List ℕ → Net
 net_in s = decoded_net (decode s)
 
 -- ---- the adder
 
-unfoldable old : Net
+unfoldable pub old : Net
 unfolding adder adder_over clock sized
 old = net_in adder.file
 
-unfoldable new : Net
+unfoldable pub new : Net
 unfolding adder adder_over clock sized
 new = net_in (rewritten_file adder.file)
 
--- its new nodes come from the ROM, the add and the output port; two are registers
-adder_comes_from : map (comes_from Plain old) (below 5) ≡ (1 ∷ []) ∷ (2 ∷ []) ∷ (3 ∷ []) ∷ [] ∷ [] ∷ []
-unfolding computing net_in old comes_from_by
-adder_comes_from = refl
-
 -- from the register to the ROM, the add, and back; from the add to the clocked ROM, and back
-unfoldable old_loop : Walk old 0 0
+unfoldable pub old_loop : Walk old 0 0
 unfolding computing net_in old
 old_loop =
     step {x = 1} (record { operand = 0; inside = lit< tt; used = lit< tt; from = refl })
     (step {x = 2} (record { operand = 1; inside = lit< tt; used = lit< tt; from = refl })
     (step {x = 0} (record { operand = 0; inside = lit< tt; used = lit< tt; from = refl }) (here refl)))
 
-unfoldable new_loop : Walk new 1 1
+unfoldable pub new_loop : Walk new 1 1
 unfolding computing net_in new
 new_loop =
     step {x = 0} (record { operand = 0; inside = lit< tt; used = lit< tt; from = refl })
     (step {x = 1} (record { operand = 1; inside = lit< tt; used = lit< tt; from = refl }) (here refl))
 
--- both through operand 0 of the ROM and operand 1 of the add: one register before is one clocked ROM after
-adder_loop : (pins (itself old) old_loop ≡ pin 0 1 ∷ pin 1 2 ∷ [])
-    × (pins (comes_from Plain old) new_loop ≡ pin 0 1 ∷ pin 1 2 ∷ [])
-    × (latency old_loop ≡ 1)
-    × (latency new_loop ≡ 1)
-unfolding computing net_in old new old_loop new_loop comes_from_by itself pins latency
-adder_loop = (refl, refl, refl, refl)
-
--- and whatever closed walk of the new file goes through these operands
-adder_kept : (i : ℕ) (z : Walk new i i) → pins (comes_from Plain old) z ≡ pins (itself old) old_loop → latency z ≡ 1
-unfolding computing net_in old new adder adder_over clock sized
-adder_kept i z e =
-    let kept = (loops_keep_their_length Plain adder.file (rewritten_file adder.file) (byte_list adder.file refl) refl refl old new refl refl).loops 0 old_loop tt in
-    kept.as_long i z e ∙ adder_loop.2
-
 -- ---- input, asynchronous ROM, not, register, output, late-started
 
-unfoldable drawn : Net
+unfoldable pub drawn : Net
 unfolding turned refused
 drawn = net_in turned.file
 
-unfoldable late : Net
+unfoldable pub late : Net
 unfolding turned refused
 late = net_in (late_file turned.file)
 
--- four nodes, and of the late start the constant 1, the chain's register, the constant shown and the choose gate
-late_comes_from : map (comes_from Late drawn) (below 8) ≡ (0 ∷ []) ∷ (1 ∷ []) ∷ (2 ∷ []) ∷ (4 ∷ []) ∷ [] ∷ [] ∷ [] ∷ [] ∷ []
-unfolding computing net_in drawn comes_from_by
-late_comes_from = refl
-
-unfoldable old_path : Walk drawn 0 4
+unfoldable pub old_path : Walk drawn 0 4
 unfolding computing net_in drawn
 old_path =
     step {x = 1} (record { operand = 0; inside = lit< tt; used = lit< tt; from = refl })
@@ -84,18 +55,10 @@ old_path =
     (step {x = 4} (record { operand = 0; inside = lit< tt; used = lit< tt; from = refl }) (here refl))))
 
 -- over the choose gate, at 1
-unfoldable new_path : Walk late 0 3
+unfoldable pub new_path : Walk late 0 3
 unfolding computing net_in late
 new_path =
     step {x = 1} (record { operand = 0; inside = lit< tt; used = lit< tt; from = refl })
     (step {x = 2} (record { operand = 0; inside = lit< tt; used = lit< tt; from = refl })
     (step {x = 7} (record { operand = 1; inside = lit< tt; used = lit< tt; from = refl })
     (step {x = 3} (record { operand = 0; inside = lit< tt; used = lit< tt; from = refl }) (here refl))))
-
--- the register before, which stood behind the not gate, is the clocked ROM after
-late_path : (pins (itself drawn) old_path ≡ pin 0 1 ∷ pin 0 2 ∷ pin 0 4 ∷ [])
-    × (pins (comes_from Late drawn) new_path ≡ pin 0 1 ∷ pin 0 2 ∷ pin 0 4 ∷ [])
-    × (latency old_path ≡ 1)
-    × (latency new_path ≡ 1)
-unfolding computing net_in drawn late old_path new_path comes_from_by itself pins latency
-late_path = (refl, refl, refl, refl)

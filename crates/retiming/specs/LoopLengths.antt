@@ -3,23 +3,14 @@
 -- and where a ROM was split, take the copy that the next node reads. There is such a way, closed where the old one is, and however you go it, you count as many. So
 -- what takes five clocks round a feed loop takes five after the rewriting. The late start leaves out loops from which no output port can be reached, and no others.
 -- `s` is the old file and `N` its netlist, `s'` the new file and `M` its netlist; `w` is the way in the old one. Which nodes are the same: SameNodes. Assumes nothing.
-use Rattle.std.specs.Prelude.{◌≡◌, true, List, ℕ}
-use Rattle.netlist.specs.declared.Verdict.TheVariants.{Fine}
+use Rattle.std.specs.Prelude.{◌≡◌, true, ℕ}
 use Rattle.netlist.specs.Net.{Net, element_at, is_input, is_output}
-use Rattle.netlist.specs.File.{decode, good}
-use Rattle.codec.specs.Bytes.{Bytes}
 use Rattle.retiming.specs.declared.Mode.{Mode}
 use Rattle.retiming.specs.Leads.{Walk}
-use Rattle.retiming.specs.Modes.{mode_file_verdict, mode_file}
 use Rattle.retiming.specs.Lengths.{comes_from, NotLeftOut, LoopKept, PathKept}
-use Rattle.retiming.specs.KeptInFile.{loops_kept, paths_kept, of_files}
 
 pub record LengthsKept (mode : Mode) (N M : Net) : Type 0 where
   -- every closed walk that is not left out
   pub loops : (u : ℕ) (w : Walk N u u) → NotLeftOut mode N u → LoopKept N M (comes_from mode N) w
   -- every walk from an input port to an output port
   pub paths : (u v : ℕ) (w : Walk N u v) → is_input (element_at N u) ≡ true → is_output (element_at N v) ≡ true → PathKept N M (comes_from mode N) w
-
-pub loops_keep_their_length : (mode : Mode) (s s' : List ℕ) → Bytes s → mode_file_verdict mode s ≡ Fine → s' ≡ mode_file mode s
-    → (N M : Net) → decode s ≡ good N → decode s' ≡ good M → LengthsKept mode N M
-loops_keep_their_length mode s s' b a e = of_files mode s s' b a e (LengthsKept mode) (λ t. record { loops = loops_kept mode s b t; paths = paths_kept mode s b t })

@@ -1,14 +1,11 @@
 -- What the checks of a mode leave of a file that they accept: its netlist, in which neither the reader (1 to 10) nor the mode (11 to 13) finds anything to refuse.
 -- Assumes nothing.
 use Rattle.std.specs.Prelude.{◌≡◌, List, ℕ}
-use Rattle.std.proofs.Math.Path.{refl, ap}
-use Rattle.std.proofs.Common.{◌∙◌}
 use Rattle.netlist.specs.Net.{Net}
-use Rattle.netlist.specs.Verdict.{onward, reader_verdict}
-use Rattle.netlist.specs.VerdictLaws.{refuses_not}
-use Rattle.netlist.specs.File.{Decoded, bad, good, decode, decoded_net, judged, file_verdict, ReadAs}
+use Rattle.netlist.specs.Verdict.{onward}
+use Rattle.netlist.specs.File.{decode, decoded_net, file_verdict, ReadAs}
 use Rattle.netlist.specs.declared.Verdict.{Verdict}
-use Rattle.netlist.specs.declared.Verdict.TheVariants.{Fine, Refuses}
+use Rattle.netlist.specs.declared.Verdict.TheVariants.{Fine}
 
 module _ (debts : Net → Verdict) (s : List ℕ) where
   abbrev pub judged_by : Verdict
@@ -18,20 +15,3 @@ module _ (debts : Net → Verdict) (s : List ℕ) where
     pub net : Net
     pub file : ReadAs s net
     pub debtless : debts net ≡ Fine
-
-  pub past : judged_by ≡ Fine → Past
-  unfolding file_verdict
-  past h = by_fields (decode s) refl h
-    where
-      by_verdict : (N : Net) → decode s ≡ good N → (v : Verdict) → reader_verdict N ≡ v → onward v (debts N) ≡ Fine → Past
-      by_verdict N e Fine f d = record { net = N; file = record { reads = e; fine = f }; debtless = d }
-      by_verdict N e (Refuses k p) f d = absurd (refuses_not d)
-
-      by_fields : (d : Decoded) → decode s ≡ d → onward (judged d) (debts (decoded_net d)) ≡ Fine → Past
-      by_fields (bad k p) e f = absurd (refuses_not f)
-      by_fields (good N) e f = by_verdict N e (reader_verdict N) refl f
-
-  -- of a file that the reader passes, the mode's checks decide
-  pub judged_is : (N : Net) → decode s ≡ good N → reader_verdict N ≡ Fine → judged_by ≡ debts N
-  unfolding file_verdict
-  judged_is N reads fine = ap (λ (d : Decoded). onward (judged d) (debts (decoded_net d))) reads ∙ ap (λ (v : Verdict). onward v (debts N)) fine

@@ -1,7 +1,7 @@
 -- The rewriting of a file whose new netlist is laid as a circuit. Assumes nothing.
 use Rattle.std.specs.Prelude.{◌≡◌, true, false, List, ◌++◌, ℕ, ◌≤◌, ◌<◌, length, drop, ltb}
 use Rattle.std.proofs.Common.{sym, ap, ◌∙◌, ⊎_elim, zero-le, arith, ltb-false}
-use Rattle.lists.specs.BelowLaws.{true_or_false}
+use Rattle.lists.proofs.BelowLaws.{true_or_false}
 use Rattle.netlist.specs.Net.{Net}
 use Rattle.netlist.specs.File.{encode}
 use Rattle.netlist.specs.declared.Answer.{Answer}
@@ -11,9 +11,9 @@ use Rattle.netlist.specs.declared.Verdict.TheVariants.{Fine, Refuses}
 use Rattle.circuit.specs.Circuit.{net_of}
 use Rattle.retiming.specs.declared.Mode.{Mode}
 use Rattle.retiming.specs.FileRewrite.{Rewrote, written_by, written, written_after}
-use Rattle.retiming.specs.OutLaws.{out_short, out_long}
+use Rattle.retiming.proofs.OutLaws.{out_short, out_long}
 use Rattle.retiming.specs.Modes.{mode_file_verdict, mode_file, mode_rewrite}
-use Rattle.retiming.specs.RewrittenFile.{mode_rewrite_lem, mode_file_lem}
+use Rattle.retiming.proofs.RewrittenFile.{mode_rewrite_lem, mode_file_lem}
 use Rattle.retime.specs.declared.Retimed.{Retimed}
 use Rattle.retime.specs.declared.Retimed.TheVariants.{Laid}
 use Rattle.retime.specs.declared.Retimed.TheVariants as retimed

@@ -12,7 +12,7 @@ use lib.Seq.{get_or-set_same, get_or-set_other}
 use lib.Dec.{eqb, ltb}
 use borrow.Author.Tests.{lt-ltb}
 use Rattle.lists.specs.Lists.{any_below, one}
-use Rattle.lists.specs.BelowLaws.{true_or_false, lt_or_le, eqb-true, eqb_differ, any_below_intro}
+use Rattle.lists.proofs.BelowLaws.{true_or_false, lt_or_le, eqb-true, eqb_differ, any_below_intro}
 use Rattle.netlist.specs.Net.{Net, size, element_at, source, operands, is_input, is_output}
 use Rattle.netlist.specs.Reach.{reads_test}
 use Rattle.netlist.specs.Verdict.{unread}

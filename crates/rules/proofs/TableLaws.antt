@@ -11,14 +11,15 @@ use lib.Seq.{get_or-set_same, get_or-set_other}
 use lib.Dec.{eqb}
 use borrow.Author.Tests.{ne_eqb}
 use Rattle.lists.specs.Lists.{any_below, one, count_below}
-use Rattle.lists.specs.BelowLaws.{true_or_false, lt_or_le, eqb-true, eqb_self, eqb_differ, any_below_intro, any_below_elim, bit_true, bit_false, one_le}
-use Rattle.lists.specs.SearchLaws.{count_same, count_one_more, count_less}
+use Rattle.lists.proofs.BelowLaws.{true_or_false, lt_or_le, eqb-true, eqb_self, eqb_differ, any_below_intro, any_below_elim, bit_true, bit_false, one_le}
+use Rattle.lists.proofs.SearchLaws.{count_same, count_one_more, count_less}
 use Rattle.netlist.specs.Net.{Table, Net, size, element_at, is_async, is_clocked, is_memory, table_of}
 use Rattle.netlist.specs.Checks.{HasTable, HasTables}
-use Rattle.netlist.specs.Memories.{memory_kinds, own-table, reads_only}
+use Rattle.netlist.proofs.Memories.{memory_kinds, own-table, reads_only}
 use Rattle.netlist.specs.Verdict.{reads_table, table_in_use, unread_table}
 use Rattle.netlist.specs.declared.Element.{Element}
-use Rattle.circuit.specs.Code.{table_or, rom-table}
+use Rattle.circuit.specs.Code.{table_or}
+use Rattle.circuit.proofs.CodeLaws.{rom-table}
 use Rattle.rules.specs.TableMarks.{Unmarked, TableMarks}
 use Rattle.rules.proofs.ReaderLaws.{mark_at, one_of}
 

@@ -9,12 +9,13 @@ use native.Mathlib.Omega.{arith}
 use lib.ListN.{get_or}
 use lib.Dec.{eqb, leb}
 use borrow.Author.Tests.{eq-eqb, ne_eqb}
-use Rattle.lists.specs.BelowLaws.{eqb_self}
+use Rattle.lists.proofs.BelowLaws.{eqb_self}
 use Rattle.words.specs.declared.Op.{Op}
 use Rattle.words.specs.declared.Op.TheVariants.{Constant, Not, And, Or, Xor, Add, Subtract, Equal, Less, Choose, Part, Join}
 use Rattle.netlist.specs.Net.{Table, no_table, Net, element_at, width_at, source, is_memory, table_of}
 use Rattle.netlist.specs.NodeField.{op_number}
-use Rattle.circuit.specs.Code.{code_of, Coded, code_below, number_or}
+use Rattle.circuit.specs.Code.{code_of, Coded, number_or}
+use Rattle.circuit.proofs.CodeLaws.{code_below}
 use Rattle.netlist.specs.Verdict.{op_widths, widths_right, bad_width}
 use Rattle.netlist.specs.declared.Element.{Element}
 use Rattle.netlist.specs.declared.Element.TheVariants.{Input, Output, Register, Async, Clocked, Gate}

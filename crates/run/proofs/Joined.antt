@@ -10,7 +10,7 @@ use Rattle.netlist.specs.declared.Element.{Element}
 use Rattle.netlist.specs.declared.Element.TheVariants.{Input, Output, Register, Async, Clocked, Gate}
 use Rattle.behaviour.specs.Run.{holds_next, contents_now, words, next_state, run_outputs, run_state}
 use Rattle.behaviour.specs.Service.{words_in}
-use Rattle.lists.specs.SelectLaws.{select_same, members_map}
+use Rattle.lists.proofs.SelectLaws.{select_same, members_map}
 use Rattle.evaluate.specs.Rows.{row_test, row_members, row_of, RowFits, Loaded}
 use Rattle.evaluate.specs.Clock.{clock_words, Evaluated}
 use Rattle.evaluate.specs.Settling.{clock-fits}

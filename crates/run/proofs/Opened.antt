@@ -9,7 +9,7 @@ use Rattle.netlist.specs.declared.Verdict.{Verdict}
 use Rattle.netlist.specs.declared.Verdict.TheVariants.{Refuses}
 use Rattle.circuit.specs.Circuit.{net_of}
 use Rattle.behaviour.specs.Service.{reset_by, reset_verdict, reset_net, reset_file, run_by, run_verdict, run_net, run_file}
-use Rattle.behaviour.specs.ServiceLaws.{reset_file_lem, run_file_lem}
+use Rattle.behaviour.proofs.ServiceLaws.{reset_file_lem, run_file_lem}
 use Rattle.checks.specs.Open.{Open}
 
 -- ---- a file that is refused

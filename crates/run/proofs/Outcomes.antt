@@ -7,14 +7,14 @@ use native.Mathlib.Omega.{arith}
 use lib.ListN.{length, get_or, take}
 use lib.Seq.{length-take-le}
 use borrow.Author.Tests.{eq-eqb, ne_eqb}
-use Rattle.lists.specs.BelowLaws.{and_left, eqb-true}
+use Rattle.lists.proofs.BelowLaws.{and_left, eqb-true}
 use Rattle.netlist.specs.Net.{Net, size}
 use Rattle.netlist.specs.declared.Verdict.{Verdict}
 use Rattle.netlist.specs.declared.Verdict.TheVariants.{Fine, Refuses}
 use Rattle.behaviour.specs.Runs.{input_widths, output_widths, state_widths, fitting}
 use Rattle.behaviour.specs.Service.{words_in, room_for, fitting_bytes, reset_by, reset_net, Ran, run_by, run_net}
 use Rattle.evaluate.specs.Rows.{row_test, row_members, row_widths, row_count}
-use Rattle.lists.specs.SelectLaws.{member}
+use Rattle.lists.proofs.SelectLaws.{member}
 use Rattle.evaluate.specs.declared.Row.{Row}
 use Rattle.evaluate.specs.declared.Row.TheVariants.{Inputs, Outputs, State}
 

@@ -8,20 +8,21 @@ use native.Mathlib.Omega.{arith}
 use Rattle.std.proofs.Math.ListN.{length, drop, length-append}
 use Rattle.std.proofs.Math.Seq.{drop-length}
 use Rattle.lists.specs.Lists.{below, concat_map}
-use Rattle.lists.specs.BelowLaws.{and_left, and_right, eqb-true, get_or_listed}
-use Rattle.lists.specs.ListsLaws.{length-select}
-use Rattle.lists.specs.SelectLaws.{concat-more}
-use Rattle.lists.specs.Sections.{section-length}
+use Rattle.lists.proofs.BelowLaws.{and_left, and_right, eqb-true, get_or_listed}
+use Rattle.lists.proofs.ListsLaws.{length-select}
+use Rattle.lists.proofs.SelectLaws.{concat-more}
+use Rattle.lists.proofs.Sections.{section-length}
 use Rattle.words.specs.Words.{word}
 use Rattle.netlist.specs.Net.{Net, size, width_at}
 use Rattle.netlist.specs.Checks.{WellFormed}
 use Rattle.behaviour.specs.Run.{run_outputs, run_state}
 use Rattle.behaviour.specs.Runs.{input_widths, output_widths, state_widths, fitting}
 use Rattle.behaviour.specs.Service.{bytes_of, words_in, room_for, fitting_bytes}
-use Rattle.behaviour.specs.WordBytes.{length-bytes, length_words_in, words_of_bytes, fitting-bytes}
-use Rattle.behaviour.specs.Only15.{outputs_long}
+use Rattle.behaviour.proofs.WordBytes.{length-bytes, length_words_in, words_of_bytes, fitting-bytes}
+use Rattle.behaviour.proofs.Only15.{outputs_long}
 use Rattle.behaviour.specs.RunList.{row_bytes, byte_row, room_for_rows, fitting_rows}
-use Rattle.behaviour.specs.RunListLaws.{states_from, row_words, state_from_fits}
+use Rattle.behaviour.specs.RunListLaws.{states_from, row_words}
+use Rattle.behaviour.proofs.RunListLaws.{state_from_fits}
 use Rattle.evaluate.specs.Rows.{row_test}
 use Rattle.evaluate.specs.declared.Row.TheVariants.{Inputs, Outputs, State}
 use Rattle.schedule.specs.declared.Sizes.{Sizes}

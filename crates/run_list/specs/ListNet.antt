@@ -3,7 +3,7 @@ use Rattle.std.specs.Prelude.{◌≡◌, true, List, ℕ, ◌*◌, ◌/◌, leng
 use Rattle.std.proofs.Math.Path.{refl, ap}
 use Rattle.std.proofs.Common.{sym, ◌∙◌, zero-add, arith}
 use Rattle.lists.specs.Lists.{below, concat_map}
-use Rattle.lists.specs.BelowLaws.{and_left, eqb-true}
+use Rattle.lists.proofs.BelowLaws.{and_left, eqb-true}
 use Rattle.netlist.specs.Net.{in_clock, Net}
 use Rattle.netlist.specs.Checks.{WellFormed}
 use Rattle.netlist.specs.File.{ReadAs, answer, given}
@@ -11,13 +11,14 @@ use Rattle.netlist.specs.declared.Answer.TheVariants.{Accepted, Refused}
 use Rattle.netlist.specs.declared.Verdict.{Verdict}
 use Rattle.netlist.specs.declared.Verdict.TheVariants.{Fine, Refuses}
 use Rattle.codec.specs.Bytes.{Bytes}
-use Rattle.codec.specs.WordsLaws.{last_words}
+use Rattle.codec.proofs.WordsLaws.{last_words}
 use Rattle.circuit.specs.Order.{Complete}
 use Rattle.behaviour.specs.Runs.{input_widths, output_widths, state_widths}
 use Rattle.behaviour.specs.Service.{bytes_of, words_in, room_for, fitting_bytes, Ran}
 use Rattle.behaviour.specs.RunList.{room_for_rows, fitting_rows, entries, list_verdict, list_by, run_list_file}
-use Rattle.behaviour.specs.RunListLaws.{states_from, row_words, list_file, list_words}
-use Rattle.behaviour.specs.NoneRefused.{list_tests}
+use Rattle.behaviour.specs.RunListLaws.{states_from, row_words}
+use Rattle.behaviour.proofs.RunListLaws.{list_file, list_words}
+use Rattle.behaviour.proofs.NoneRefused.{list_tests}
 use Rattle.evaluate.specs.Clock.{Inside}
 use Rattle.run_list.specs.Clocks.{shown_at}
 

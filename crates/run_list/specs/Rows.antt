@@ -2,7 +2,7 @@
 use Rattle.std.specs.Prelude.{◌≡◌, refl, Bool, true, false, List, ℕ, ◌+◌, ◌-◌, ◌*◌, ◌/◌, ◌%◌, ◌≤◌, ◌<◌, length, take, drop, eqb}
 use Rattle.std.proofs.Common.{sym, ap, ap₂, ◌∙◌, true≢false, zero-mul, mul-suc, mul-le-mul_left, arith, eq-eqb, ne_eqb}
 use Rattle.std.proofs.Math.Nat.{mul-mod_right, div-eq_of_eq-mul_right, div-add-mod}
-use Rattle.lists.specs.BelowLaws.{and_right, eqb-true, eqb_differ, all_below_elim, all_below_intro}
+use Rattle.lists.proofs.BelowLaws.{and_right, eqb-true, eqb_differ, all_below_elim, all_below_intro}
 use Rattle.netlist.specs.Net.{Net}
 use Rattle.behaviour.specs.Service.{fitting_bytes}
 use Rattle.behaviour.specs.RunList.{row_bytes, byte_row, room_for_rows, fitting_rows}

@@ -3,12 +3,13 @@ use Rattle.std.specs.Prelude.{◌≡◌, refl, List, [], ◌∷◌, ◌++◌, �
 use Rattle.std.proofs.Common.{sym, ap, ◌∙◌, zero-le, arith, take_all}
 use Rattle.std.proofs.Math.ListN.{length-append}
 use Rattle.lists.specs.Lists.{concat_map}
-use Rattle.lists.specs.ListsLaws.{concat_map_next}
+use Rattle.lists.proofs.ListsLaws.{concat_map_next}
 use Rattle.netlist.specs.declared.Node.{Node}
 use Rattle.netlist.specs.Net.{Net, nowhere, node_at}
 use Rattle.netlist.specs.Field.{field}
 use Rattle.netlist.specs.File.{table_bytes, node_bytes, encode}
-use Rattle.netlist.specs.Offsets.{fields_of, field_at, offset_of, fields_file, offset-length, offset_next, offset_within}
+use Rattle.netlist.specs.Offsets.{fields_of, field_at, offset_of}
+use Rattle.netlist.proofs.Offsets.{fields_file, offset-length, offset_next, offset_within}
 use Rattle.writer.specs.Written.{Puts, puts_none, puts_as, puts_more, written_front}
 
 module _ (N : Net) where

@@ -3,7 +3,7 @@ use Rattle.std.specs.Prelude.{◌≡◌, List, [], ◌++◌, ℕ, ◌+◌, ◌*�
 use Rattle.std.proofs.Math.Path.{refl, ap}
 use Rattle.std.proofs.Common.{sym, ◌∙◌, zero-le, arith, length-append, take_all}
 use Rattle.lists.specs.Lists.{concat_map}
-use Rattle.lists.specs.ListsLaws.{concat_map_next}
+use Rattle.lists.proofs.ListsLaws.{concat_map_next}
 
 -- ---- what the first i items come to
 

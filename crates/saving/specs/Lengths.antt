@@ -11,10 +11,10 @@ use Rattle.netlist.specs.declared.Element.{Element}
 use Rattle.netlist.specs.declared.Element.TheVariants.{Input, Output, Register, Async, Clocked, Gate}
 use Rattle.netlist.specs.Net.{size, node_at, element_at, operands}
 use Rattle.netlist.specs.File.{node_bytes}
-use Rattle.codec.specs.ContentLength.{content_length, content_short, length-content}
+use Rattle.codec.proofs.ContentLength.{content_length, content_short, length-content}
 use Rattle.circuit.specs.Code.{code_of}
 use Rattle.circuit.specs.Circuit.{row_node, net_of}
-use Rattle.circuit.specs.CircuitLaws.{node_of}
+use Rattle.circuit.proofs.CircuitLaws.{node_of}
 
 -- what a node holds besides kind, width and sources: a reset word, a table, both, an operation with a word or a lowest bit
 abbrev pub own_length : ℕ → ℕ

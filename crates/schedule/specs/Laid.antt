@@ -2,7 +2,7 @@
 -- Assumes nothing.
 use Rattle.std.specs.Prelude.{◌≡◌, refl, ◌⊎◌, List, [], ◌∷◌, ◌++◌, ℕ, zero, suc, ◌+◌, ◌-◌, ◌*◌, ◌≤◌, ◌<◌, length, get_or, take, drop}
 use Rattle.std.proofs.Common.{sym, ap, subst, ◌∙◌, ⊎_elim, arith}
-use Rattle.lists.specs.BelowLaws.{lt_or_le}
+use Rattle.lists.proofs.BelowLaws.{lt_or_le}
 use Rattle.netlist.specs.Net.{Net, element_at, width_at, source}
 use Rattle.circuit.specs.Code.{code_of}
 use Rattle.schedule.specs.Filled.{filled-part, filled-behind}

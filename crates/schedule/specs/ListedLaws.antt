@@ -4,8 +4,9 @@ use Rattle.std.proofs.Common.{sym, ap, ◌∙◌, inl, inr, ⊎_elim, true≢fal
 use Rattle.std.proofs.Math.Path.{subst}
 use Rattle.std.proofs.lemmas.Bool.{false≢true}
 use Rattle.lists.specs.Lists.{count_below}
-use Rattle.lists.specs.BelowLaws.{lt_or_le, count_below-lt, count_below-le, count_below_not, count_below_subset}
-use Rattle.lists.specs.SelectLaws.{Member, some_member}
+use Rattle.lists.proofs.BelowLaws.{lt_or_le, count_below-lt, count_below-le, count_below_not, count_below_subset}
+use Rattle.lists.specs.SelectLaws.{Member}
+use Rattle.lists.proofs.SelectLaws.{some_member}
 use Rattle.netlist.specs.declared.Element.{Element}
 use Rattle.netlist.specs.declared.Element.TheVariants.{Input, Output, Register, Async, Clocked, Gate}
 use Rattle.netlist.specs.Net.{Net, size, element_at, source, operands, within_clock, in_clock, is_input, is_output, holds_word, Sourced}

@@ -2,9 +2,9 @@
 use Rattle.std.specs.Prelude.{◌≡◌, refl, Bool, true, List, ◌++◌, ℕ, ◌+◌, ◌-◌, ◌≤◌, ◌<◌, length, get_or, set, take}
 use Rattle.std.proofs.Common.{sym, ap, ◌∙◌, add-one, arith, length-take-le, get_or-take, get_or-set_same, get_or-set_other, below_more}
 use Rattle.lists.specs.Lists.{one, count_below, select}
-use Rattle.lists.specs.BelowLaws.{count_below-lt}
-use Rattle.lists.specs.ListsLaws.{get_or_select}
-use Rattle.lists.specs.SelectLaws.{members_count}
+use Rattle.lists.proofs.BelowLaws.{count_below-lt}
+use Rattle.lists.proofs.ListsLaws.{get_or_select}
+use Rattle.lists.proofs.SelectLaws.{members_count}
 use Rattle.netlist.specs.Net.{Net, size}
 use Rattle.evaluate.specs.Rows.{row_test}
 use Rattle.evaluate.specs.declared.Row.TheVariants.{Inputs, Outputs, State}

@@ -2,7 +2,7 @@
 use Rattle.std.specs.Prelude.{◌≡◌, ◌≢◌, ◌⊎◌, List, ℕ, ◌+◌, ◌≤◌, ◌<◌, length, get_or, set, replicate, eqb}
 use Rattle.std.proofs.Common.{sym, ap, ◌∙◌, inl, inr, ⊎_elim, arith, length-set, get_or-set_same, get_or-set_other}
 use Rattle.std.proofs.lemmas.List.{length-replicate, get_or-replicate}
-use Rattle.lists.specs.BelowLaws.{true_or_false, lt_or_le, eqb-true, eqb_differ}
+use Rattle.lists.proofs.BelowLaws.{true_or_false, lt_or_le, eqb-true, eqb_differ}
 use Rattle.circuit.specs.Order.{Stands}
 
 -- all are places of lines, also those of nodes that have none

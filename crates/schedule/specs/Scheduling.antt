@@ -2,12 +2,12 @@
 use Rattle.std.specs.Prelude.{◌≡◌, true, List, ℕ, ◌+◌, ◌≤◌, ◌<◌, length, get_or}
 use Rattle.std.proofs.Common.{sym, ap, subst, ◌∙◌, zero-add, arith}
 use Rattle.std.proofs.lemmas.Bool.{false≢true}
-use Rattle.lists.specs.BelowLaws.{count_below-lt}
+use Rattle.lists.proofs.BelowLaws.{count_below-lt}
 use Rattle.lists.specs.SelectLaws.{Member}
 use Rattle.netlist.specs.declared.Element.{Element}
 use Rattle.netlist.specs.declared.Element.TheVariants.{Input, Output, Register, Async, Clocked, Gate}
 use Rattle.netlist.specs.Net.{Net, size, element_at, width_at, source, operands, in_clock, is_output}
-use Rattle.netlist.specs.NodeLaws.{few_operands}
+use Rattle.netlist.proofs.NodeLaws.{few_operands}
 use Rattle.netlist.specs.Checks.{WellFormed}
 use Rattle.circuit.specs.Code.{code_of}
 use Rattle.circuit.specs.Order.{Stands, Complete}

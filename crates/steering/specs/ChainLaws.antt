@@ -7,13 +7,13 @@ use Rattle.std.proofs.Math.Bool.{cond}
 use Prim.Native.Nat.{ℕ, zero, suc, ◌+◌, ◌-◌, ◌≤◌, ◌<◌, max}
 use native.Mathlib.Omega.{arith}
 use Rattle.lists.specs.Lists.{one, largest}
-use Rattle.lists.specs.BelowLaws.{lt_or_le}
+use Rattle.lists.proofs.BelowLaws.{lt_or_le}
 use Rattle.netlist.specs.Net.{Net, size, element_at, source, is_clocked}
 use Rattle.behaviour.specs.Run.{zero_word}
 use Rattle.retiming.specs.Rewrite.{Timing, root, passed, own_here, old_on}
 use Rattle.retiming.specs.Gates.{first_on, last_on, shown_on, steers_on, steers_of, chain_length}
-use Rattle.retiming.specs.GatesLayout.{shown_early, shown_range, steers_none}
-use Rattle.retiming.specs.GatesCounts.{shown_count}
+use Rattle.retiming.proofs.GatesLayout.{shown_early, shown_range, steers_none}
+use Rattle.retiming.proofs.GatesCounts.{shown_count}
 use Rattle.wiring.specs.Wiring.{Ready, wire_count}
 use Rattle.wiring.specs.WiringLaws.{one_few, is_root, root_inside, passed_small, by_wires}
 

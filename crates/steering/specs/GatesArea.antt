@@ -5,7 +5,7 @@ use Rattle.std.proofs.Common.{ap₂, subst, ◌∙◌}
 use Prim.Native.Nat.{ℕ, zero, suc, ◌+◌, ◌-◌, ◌*◌, ◌/◌, ◌%◌, ◌≤◌, ◌<◌}
 use native.Mathlib.Omega.{arith}
 use Rattle.std.proofs.Math.ListN.{length, get_or}
-use Rattle.lists.specs.Sections.{section-length, section-read}
+use Rattle.lists.proofs.Sections.{section-length, section-read}
 use Rattle.netlist.specs.Net.{Net, size, element_at, source, operands, Sourced}
 use Rattle.behaviour.specs.Run.{zero_word}
 use Rattle.retiming.specs.Rewrite.{Timing, places}

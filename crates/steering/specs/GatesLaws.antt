@@ -5,15 +5,16 @@ use Rattle.std.proofs.Common.{subst, ◌∙◌, arith, length-append, get_or-app
 use Rattle.std.proofs.Math.Logic.{⊎_elim}
 use mathlib.Core.List.{List, [], ◌∷◌, ◌++◌, append-nil}
 use Rattle.std.proofs.Math.ListN.{length, get_or-append}
-use Rattle.lists.specs.BelowLaws.{lt_or_le, lt-suc_split}
+use Rattle.lists.proofs.BelowLaws.{lt_or_le, lt-suc_split}
 use Rattle.netlist.specs.Net.{Net, element_at, source, operands}
-use Rattle.netlist.specs.NodeLaws.{few_operands}
+use Rattle.netlist.proofs.NodeLaws.{few_operands}
 use Rattle.behaviour.specs.Run.{zero_word}
 use Rattle.retiming.specs.Rewrite.{Timing, Place, Entry, Reg, entry_places, places, number_of, along}
 use Rattle.retiming.specs.Layout.{no_place, Stands}
 use Rattle.retiming.specs.Gates.{Spot, Old, One, Chain, Shown, Pick, first_on, shown_on, picks_on, spot_number, picked}
-use Rattle.retiming.specs.GatesLayout.{no_spot, picked-gate, picked_wire}
-use Rattle.retiming.specs.GatesCounts.{picks_length}
+use Rattle.retiming.specs.GatesLayout.{no_spot}
+use Rattle.retiming.proofs.GatesLayout.{picked-gate, picked_wire}
+use Rattle.retiming.proofs.GatesCounts.{picks_length}
 use Rattle.wiring.specs.WiringLaws.{asked-after}
 use Rattle.plan.specs.Entries.{Stored}
 use Rattle.plan.specs.Registers.{entry_count, entry_at, wire_on, wires_before, HeadHeld, RegHeld}

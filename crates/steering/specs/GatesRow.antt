@@ -6,14 +6,14 @@ use mathlib.Core.List.{List, ◌++◌, map}
 use native.Mathlib.Omega.{arith}
 use Rattle.std.proofs.Math.ListN.{length, get_or, length-append, length-map}
 use Rattle.std.proofs.Math.Seq.{get_or-append-add}
-use Rattle.lists.specs.ListsLaws.{get_or_concat_below}
+use Rattle.lists.proofs.ListsLaws.{get_or_concat_below}
 use Rattle.netlist.specs.Net.{Net}
 use Rattle.behaviour.specs.Run.{zero_word}
 use Rattle.retiming.specs.Rewrite.{Timing, places}
 use Rattle.retiming.specs.Gates.{Spot, Old, Shown, Pick, shown_on, pick_pair, picks_on, chain_spots, pick_spots, spots, spot_number}
 use Rattle.retiming.specs.GatesLayout.{no_spot}
-use Rattle.retiming.specs.GatesCounts.{pair_offset}
-use Rattle.retiming.specs.GatesNumbers.{number_of_spot}
+use Rattle.retiming.proofs.GatesCounts.{pair_offset}
+use Rattle.retiming.proofs.GatesNumbers.{number_of_spot}
 use Rattle.plan.specs.Registers.{entry_count}
 use Rattle.plan.specs.RegistersRow.{row_all, row_first}
 use Rattle.steering.specs.GatesTo.{picks_before, gates_from}

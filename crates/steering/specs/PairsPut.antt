@@ -2,8 +2,8 @@
 use Rattle.std.specs.Prelude.{◌≡◌, refl, List, ℕ, suc, ◌+◌, ◌*◌, ◌≤◌, ◌<◌, length, get_or, set}
 use Rattle.std.proofs.Common.{sym, ap, ◌∙◌, ⊎_elim, not-suc-le-zero, arith, length-set, get_or-set_same, get_or-set_other}
 use Rattle.std.proofs.Math.Seq.{set_out}
-use Rattle.lists.specs.BelowLaws.{lt-suc_split}
-use Rattle.lists.specs.Sections.{section-length}
+use Rattle.lists.proofs.BelowLaws.{lt-suc_split}
+use Rattle.lists.proofs.Sections.{section-length}
 use Rattle.plan.specs.Areas.{owners_in, words_in, late_in, sources_in}
 use Rattle.plan.specs.RegistersPut.{RegisterPut, source-put}
 use Rattle.steering.specs.GatesTo.{gate_after, PutsPairs}

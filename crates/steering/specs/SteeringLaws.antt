@@ -6,15 +6,17 @@ use Rattle.std.proofs.Math.Logic.{⊎_elim}
 use Rattle.std.proofs.Math.ListN.{length, get_or, get_or-append}
 use Rattle.std.proofs.lemmas.List.{length-map}
 use Rattle.lists.specs.Lists.{below}
-use Rattle.lists.specs.BelowLaws.{true_or_false, lt_or_le, length_listed, get_or_listed, get_or_map-lt}
+use Rattle.lists.proofs.BelowLaws.{true_or_false, lt_or_le, length_listed, get_or_listed, get_or_map-lt}
 use Rattle.netlist.specs.Net.{Net, element_at}
-use Rattle.netlist.specs.NodeLaws.{few_operands}
+use Rattle.netlist.proofs.NodeLaws.{few_operands}
 use Rattle.behaviour.specs.Run.{zero_word}
 use Rattle.retiming.specs.Rewrite.{Timing, Place, Entry, Reg, entry_places, reg_places, places}
-use Rattle.retiming.specs.Layout.{no_place, either}
+use Rattle.retiming.specs.Layout.{no_place}
+use Rattle.retiming.proofs.LayoutLaws.{either}
 use Rattle.retiming.specs.Gates.{Old, One, Chain, chain_length, picks_on, chain_spots, pick_spots, spots, spot_number}
-use Rattle.retiming.specs.GatesLayout.{no_spot, picked_wire}
-use Rattle.retiming.specs.Ungated.{none_shown, no_length, no_chain, no_picks}
+use Rattle.retiming.specs.GatesLayout.{no_spot}
+use Rattle.retiming.proofs.GatesLayout.{picked_wire}
+use Rattle.retiming.proofs.Ungated.{none_shown, no_length, no_chain, no_picks}
 use Rattle.plan.specs.Areas.{owners_in, words_in, late_in, sources_in}
 use Rattle.plan.specs.Registers.{entry_count, entry_at, row_before, wires_before, HeadHeld, RegHeld, Laid}
 use Rattle.plan.specs.RegistersRow.{regs_in_row, row_longer}

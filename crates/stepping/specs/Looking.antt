@@ -2,7 +2,7 @@
 use Rattle.std.specs.Prelude.{◌≡◌, refl, ◌⊎◌, List, ℕ, ◌+◌, ◌-◌, ◌^◌, ◌≤◌, ◌<◌, length, get_or, set}
 use Rattle.std.proofs.Common.{sym, ap, subst, ◌∙◌, inl, inr, ⊎_elim, arith, length-set, get_or-set_same, get_or-set_other}
 use Rattle.std.proofs.Math.Decide.{ℕ_discrete}
-use Rattle.lists.specs.BelowLaws.{lt_or_le}
+use Rattle.lists.proofs.BelowLaws.{lt_or_le}
 use Rattle.netlist.specs.Net.{no_table, spelled, Net}
 use Rattle.netlist.specs.Checks.{WellFormed}
 use Rattle.schedule.specs.declared.Sizes.{Sizes}

@@ -3,7 +3,7 @@ use Rattle.std.specs.Prelude.{◌≡◌, true, List, ℕ, ◌+◌, ◌^◌, ◌�
 use Rattle.std.proofs.Math.Path.{sym, ap}
 use Rattle.std.proofs.Common.{subst, ◌∙◌, arith, lit<}
 use Rattle.std.proofs.Math.ListN.{get_or}
-use Rattle.lists.specs.BelowLaws.{count_below-le}
+use Rattle.lists.proofs.BelowLaws.{count_below-le}
 use Rattle.netlist.specs.Net.{no_table, spelled, Net, size, element_at, width_at, contents_at, is_memory}
 use Rattle.netlist.specs.Checks.{WellFormed}
 use Rattle.circuit.specs.Code.{table_or}

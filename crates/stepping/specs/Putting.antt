@@ -1,8 +1,9 @@
 -- Words are put one after the other from a place on. Assumes nothing.
 use Rattle.std.specs.Prelude.{◌≡◌, refl, ◌⊎◌, List, ℕ, suc, ◌+◌, ◌≤◌, ◌<◌, length, get_or, set}
 use Rattle.std.proofs.Common.{sym, ap, subst, ◌∙◌, inl, inr, ⊎_elim, arith, length-set, get_or-set_same, get_or-set_other, ext_get_or}
-use Rattle.lists.specs.BelowLaws.{lt-suc_split}
-use Rattle.lists.specs.Sections.{section, section-length, section-read}
+use Rattle.lists.proofs.BelowLaws.{lt-suc_split}
+use Rattle.lists.specs.Sections.{section}
+use Rattle.lists.proofs.Sections.{section-length, section-read}
 
 -- the n words from a place on are those that f says, and no other is touched
 pub record Put (from n : ℕ) (f : ℕ → ℕ) (before after : List ℕ) : Type 0 where

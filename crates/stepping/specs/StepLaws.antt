@@ -6,8 +6,9 @@ use Rattle.std.proofs.lemmas.Bool.{false≢true}
 use native.Mathlib.Omega.{arith}
 use Rattle.std.proofs.Math.ListN.{get_or}
 use Rattle.std.proofs.Math.Pow.{pow_mono}
-use Rattle.lists.specs.Paths.{pick, off_eq}
-use Rattle.lists.specs.BelowLaws.{lt_or_le, lt-suc_split}
+use Rattle.lists.specs.Paths.{pick}
+use Rattle.lists.proofs.Paths.{off_eq}
+use Rattle.lists.proofs.BelowLaws.{lt_or_le, lt-suc_split}
 use Rattle.words.specs.declared.Op.{Op}
 use Rattle.words.specs.declared.Op.TheVariants.{Constant, Not, And, Or, Xor, Add, Subtract, Equal, Less, Choose, Part, Join}
 use Rattle.words.specs.Gates.{operate, operands_of}
@@ -16,10 +17,11 @@ use Rattle.netlist.specs.declared.Element.{Element}
 use Rattle.netlist.specs.declared.Element.TheVariants.{Input, Output, Register, Async, Clocked, Gate}
 use Rattle.netlist.specs.Net.{no_table, spelled, Net, element_at, width_at, source, operands, within_clock, within_few, contents_at, is_input, holds_word, is_memory, Sourced}
 use Rattle.netlist.specs.Checks.{ElementWidths, WellFormed}
-use Rattle.circuit.specs.Code.{code_of, coded, code_below, op_by, element_by, number_or, table_or}
+use Rattle.circuit.specs.Code.{code_of, op_by, element_by, number_or, table_or}
+use Rattle.circuit.proofs.CodeLaws.{coded, code_below}
 use Rattle.behaviour.specs.Run.{gives_now}
-use Rattle.behaviour.specs.Fits.{contents_fit}
-use Rattle.behaviour.specs.ClockFits.{now_fits}
+use Rattle.behaviour.proofs.Fits.{contents_fit}
+use Rattle.behaviour.proofs.ClockFits.{now_fits}
 use Rattle.evaluate.specs.Clock.{loaded}
 use Rattle.evaluate.specs.Settling.{now_same}
 use Rattle.evaluate.specs.Coded.{named, async_memory, async_gives, gate-gives, memory_asks, memory_gives, part_low}

@@ -3,7 +3,7 @@ use Rattle.std.specs.Prelude.{◌≡◌, refl, Bool, List, ℕ, ◌+◌, ◌≤�
 use Rattle.std.proofs.Common.{sym, ap, ◌∙◌, ⊎_elim, not-suc-le-zero, add-one, arith, length-set, get_or-set_same, get_or-set_other, lt-ltb, le-ltb, below_more}
 use Rattle.std.proofs.Math.ListN.{get_or-eq_default}
 use Rattle.lists.specs.Lists.{one, count_below}
-use Rattle.lists.specs.BelowLaws.{lt_or_le, count_below-le}
+use Rattle.lists.proofs.BelowLaws.{lt_or_le, count_below-le}
 
 abbrev pub marked : List ℕ → ℕ → Bool
 marked marks t = ltb 0 (get_or marks t 0)

@@ -4,14 +4,16 @@ use Rattle.std.proofs.Math.Path.{ap, ap₂}
 use Rattle.std.proofs.Common.{subst, ◌∙◌, zero-le, arith}
 use mathlib.Core.List.{List, map}
 use Rattle.std.proofs.Math.ListN.{set}
-use Rattle.lists.specs.Mapped.{mapped_to, mapped_length, mapped_next, mapped_more, mapped_all}
+use Rattle.lists.proofs.Mapped.{mapped_to, mapped_length, mapped_next, mapped_more, mapped_all}
 use Rattle.netlist.specs.declared.Node.{Node}
 use Rattle.netlist.specs.Net.{nowhere, table_of, node_at, element_at}
 use Rattle.netlist.specs.Trim.{node_over, renumbered}
-use Rattle.netlist.specs.Trimmed.{over_same}
-use Rattle.circuit.specs.Code.{table_or, rom-table}
+use Rattle.netlist.proofs.Trimmed.{over_same}
+use Rattle.circuit.specs.Code.{table_or}
+use Rattle.circuit.proofs.CodeLaws.{rom-table}
 use Rattle.circuit.specs.Circuit.{nodes_of, tables_of, net_of, Circuit}
-use Rattle.circuit.specs.Building.{Built, rebuilt}
+use Rattle.circuit.specs.Building.{Built}
+use Rattle.circuit.proofs.Building.{rebuilt}
 use Rattle.circuit.specs.Renumbering.{Retabled}
 
 -- the number of its row's table, where only a ROM shows it

@@ -5,10 +5,10 @@ use Rattle.std.proofs.Common.{subst, ◌∙◌, arith}
 use Rattle.std.proofs.Math.ListN.{length, get_or, length-map}
 use Rattle.std.proofs.Math.Seq.{ext_get_or}
 use Rattle.lists.specs.Lists.{only, select, one}
-use Rattle.lists.specs.BelowLaws.{get_or_map-lt}
-use Rattle.lists.specs.ListsLaws.{concat_map-cong, length-select}
-use Rattle.lists.specs.SearchLaws.{count_same}
-use Rattle.lists.specs.SelectLaws.{map-select, some_member, select_at}
+use Rattle.lists.proofs.BelowLaws.{get_or_map-lt}
+use Rattle.lists.proofs.ListsLaws.{concat_map-cong, length-select}
+use Rattle.lists.proofs.SearchLaws.{count_same}
+use Rattle.lists.proofs.SelectLaws.{map-select, some_member, select_at}
 use Rattle.netlist.specs.declared.Node.{Node}
 use Rattle.netlist.specs.ScanLaws.{TableAt}
 use Rattle.netlist.specs.File.{table_in}
@@ -16,11 +16,12 @@ use Rattle.netlist.specs.Net.{Table, Net, nowhere, no_table, table_of, node_at, 
 use Rattle.netlist.specs.Verdict.{table_in_use}
 use Rattle.netlist.specs.Checks.{HasTable, HasTables}
 use Rattle.netlist.specs.Trim.{table_number, renumbered, trimmed}
-use Rattle.netlist.specs.Trimmed.{over_same}
-use Rattle.netlist.specs.Memories.{own-table}
+use Rattle.netlist.proofs.Trimmed.{over_same}
+use Rattle.netlist.proofs.Memories.{own-table}
 use Rattle.circuit.specs.Circuit.{nodes_of, tables_of, net_of, Circuit}
-use Rattle.circuit.specs.CircuitLaws.{tables_of_lem}
-use Rattle.circuit.specs.Building.{Built, built_net, built_circuit}
+use Rattle.circuit.proofs.CircuitLaws.{tables_of_lem}
+use Rattle.circuit.specs.Building.{Built}
+use Rattle.circuit.proofs.Building.{built_net, built_circuit}
 use Rattle.circuit.specs.Renumbering.{Kept}
 use Rattle.rules.specs.TableMarks.{TableMarks}
 use Rattle.trimming.specs.Numbers.{marked, Numbered}

@@ -4,11 +4,11 @@ use Rattle.std.proofs.Common.{sym, ap, subst, ◌∙◌, ⊎_elim, inl, inr, zer
 use Rattle.std.proofs.Math.Decide.{ℕ_discrete}
 use Rattle.std.proofs.lemmas.List.{take-set-le}
 use Rattle.lists.specs.Lists.{one}
-use Rattle.lists.specs.BelowLaws.{true_or_false}
-use Rattle.lists.specs.Sections.{section-length, section-read, section-put, section_before, section-after}
+use Rattle.lists.proofs.BelowLaws.{true_or_false}
+use Rattle.lists.proofs.Sections.{section-length, section-read, section-put, section_before, section-after}
 use Rattle.netlist.specs.Net.{Net, size, element_at, source, is_register, Sourced}
 use Rattle.retiming.specs.Rewrite.{passed_in, root, passed}
-use Rattle.retiming.specs.Wires.{behind, ringless_rooted, wire_next, wire_none}
+use Rattle.retiming.proofs.Wires.{behind, ringless_rooted, wire_next, wire_none}
 use Rattle.wires.specs.Traced.{roots_in, passes_in, Ringless, Traced, Waits, HalfTraced, MoreTraced}
 
 -- a wire passes no more registers than there are nodes

@@ -5,9 +5,10 @@ use Rattle.std.proofs.Math.Logic.{⊎_elim}
 use Rattle.std.proofs.Math.Bool.{true}
 use Rattle.std.proofs.Math.ListN.{get_or}
 use Rattle.std.proofs.lemmas.List.{length-replicate}
-use Rattle.lists.specs.BelowLaws.{true_or_false}
+use Rattle.lists.proofs.BelowLaws.{true_or_false}
 use Rattle.lists.specs.Linked as linked
-use Rattle.lists.specs.Sections.{section-length, section-read, section-put, section_before, section-after, last_read, last_put}
+use Rattle.lists.proofs.Linked as linked_laws
+use Rattle.lists.proofs.Sections.{section-length, section-read, section-put, section_before, section-after, last_read, last_put}
 use Rattle.netlist.specs.Net.{Net, size, element_at, is_memory}
 use Rattle.retiming.specs.Rewrite.{Timing, memory_at}
 use Rattle.wiring.specs.Wiring.{ends_in, clocks_in, heads_in, wire_at, last_clock, WiredTo}
@@ -43,14 +44,14 @@ module _ (ends clocks : List ℕ) (wires : ℕ) where
     pub chains : linked.LinkedFrom (Listed ends clocks) wires heads links k
 
   pub linked_none : wires ≤ 3072 → LinkedFrom (replicate 1024 65535) clocks wires
-  linked_none h = record { many = length-replicate {A = ℕ} 1024 65535; kept = λ j l. refl; chains = linked.linked_none (Listed ends clocks) wires 1024 65535 clocks wires (omega arith) (λ j u a i. absurd (omega arith)) }
+  linked_none h = record { many = length-replicate {A = ℕ} 1024 65535; kept = λ j l. refl; chains = linked_laws.linked_none (Listed ends clocks) wires 1024 65535 clocks wires (omega arith) (λ j u a i. absurd (omega arith)) }
 
   module _ {heads links : List ℕ} {w : ℕ} (h : w < wires) (t : LinkedFrom heads links (w + 1)) where
     clock_here : get_or links w 0 ≡ get_or clocks w 0
     clock_here = t.kept w (omega arith)
 
     pub linked_past : 65535 ≤ get_or links w 0 → LinkedFrom heads links w
-    linked_past o = record { many = t.many; kept = λ j l. t.kept j (omega arith); chains = linked.linked_past (Listed ends clocks) wires h t.chains (λ u i. omega (arith, i.1, clock_here)) }
+    linked_past o = record { many = t.many; kept = λ j l. t.kept j (omega arith); chains = linked_laws.linked_past (Listed ends clocks) wires h t.chains (λ u i. omega (arith, i.1, clock_here)) }
 
     pub linked_more : {u : ℕ} → u ≡ get_or ends w 0 → get_or links w 0 < 65535 → w < length links → {more through : List ℕ} → more ≡ set heads u w → through ≡ set links w (get_or heads u 0) → LinkedFrom more through w
     linked_more {u} ue on long {more} {through} p q = record {
@@ -59,7 +60,7 @@ module _ (ends clocks : List ℕ) (wires : ℕ) where
       chains =
           subst (λ (s : List ℕ). linked.LinkedFrom (Listed ends clocks) wires s through w) (sym p)
           (subst (λ (s : List ℕ). linked.LinkedFrom (Listed ends clocks) wires (set heads u w) s w) (sym q)
-          (linked.linked_more (Listed ends clocks) wires h t.chains u (sym ue, omega (arith, clock_here)) (λ v i. sym i.0 ∙ sym ue) long));
+          (linked_laws.linked_more (Listed ends clocks) wires h t.chains u (sym ue, omega (arith, clock_here)) (λ v i. sym i.0 ∙ sym ue) long));
     }
 
 pub linked_as : {ends clocks heads links : List ℕ} {wires wires' k : ℕ} → wires ≡ wires' → LinkedFrom ends clocks wires heads links k → LinkedFrom ends clocks wires' heads links k

@@ -8,14 +8,14 @@ use Rattle.std.proofs.Math.ListN.{get_or}
 use Rattle.std.proofs.lemmas.List.{get_or-replicate}
 use borrow.Author.Tests.{lt-ltb, le-ltb, ltb-true}
 use Rattle.lists.specs.Lists.{one}
-use Rattle.lists.specs.Sections.{section-length, section-put, section_before, section-after}
-use Rattle.lists.specs.BelowLaws.{true_or_false, lt-suc_split, lt_or_le, bit_true, bit_false}
+use Rattle.lists.proofs.Sections.{section-length, section-put, section_before, section-after}
+use Rattle.lists.proofs.BelowLaws.{true_or_false, lt-suc_split, lt_or_le, bit_true, bit_false}
 use Rattle.netlist.specs.declared.Element.{Element}
 use Rattle.netlist.specs.declared.Element.TheVariants.{Input, Output, Register, Async, Clocked, Gate}
 use Rattle.netlist.specs.Net.{Net, size, element_at, source, operands, is_register, is_memory, is_clocked, Sourced}
 use Rattle.behaviour.specs.Run.{zero_word}
 use Rattle.retiming.specs.Rewrite.{Timing, root, own_here, memory_at, stays}
-use Rattle.retiming.specs.Wires.{root_within}
+use Rattle.retiming.proofs.Wires.{root_within}
 use Rattle.wires.specs.Traced.{roots_in, passes_in}
 use Rattle.wires.specs.TracedLaws.{passed_few, root_at, pass_at}
 use Rattle.wiring.specs.Wiring.{Ready, Timed, heads_in, Entered, count_from, asked_clock, wires_to, wire_count, source_of, wire_at, last_clock, Wired, Unwired, WiredTo}

@@ -5,7 +5,7 @@ use Rattle.netlist.specs.Field.{length_at}
 use Rattle.netlist.specs.ScanLaws.{TableAt}
 use Rattle.netlist.specs.File.{table_in, table_bytes}
 use Rattle.codec.specs.Bytes.{Bytes}
-use Rattle.codec.specs.FieldCame.{table-field_as_it_came}
+use Rattle.codec.proofs.FieldCame.{table-field_as_it_came}
 
 module _ (s : List ℕ) (at : ℕ) (t : TableAt s at) (b : Bytes s) where
   pub table-size : length (table_bytes (table_in s at)) ≡ 3 + length_at s at

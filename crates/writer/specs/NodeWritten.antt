@@ -11,7 +11,7 @@ use Rattle.netlist.specs.declared.Node.{Node}
 use Rattle.netlist.specs.Net.{operands}
 use Rattle.netlist.specs.NodeField.{kind_of, op_number, op_extra, before_sources, after_sources, source_bytes, node_content}
 use Rattle.netlist.specs.File.{node_bytes}
-use Rattle.codec.specs.ContentLength.{content-sum, length-content, sources-more}
+use Rattle.codec.proofs.ContentLength.{content-sum, length-content, sources-more}
 
 -- the length of the content, as an arm of the writer works it out: kind and width, what stands around the sources, and two bytes for each source
 abbrev pub content_sum : Element → ℕ

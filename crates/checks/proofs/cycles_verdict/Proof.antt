@@ -3,7 +3,7 @@ use mathlib.Core.Path.{◌≡◌, ap, ◌∙◌}
 use Prim.Native.Nat.{ℕ}
 use native.Mathlib.Omega.{arith}
 use Rattle.lists.specs.Lists.{lowest}
-use Rattle.lists.specs.SearchLaws.{lowest_bound}
+use Rattle.lists.proofs.SearchLaws.{lowest_bound}
 use Rattle.netlist.specs.Net.{in_clock, in_registers, Net, size, Sourced}
 use Rattle.netlist.specs.Reach.{reaches_itself}
 use Rattle.circuit.specs.Circuit.{net_of}

@@ -4,7 +4,7 @@ use Prim.Native.Nat.{ℕ, ◌+◌}
 use native.Mathlib.Omega.{arith}
 use lib.ListN.{get_or}
 use Rattle.netlist.specs.Net.{Table}
-use Rattle.circuit.specs.CircuitLaws.{table_head, no_table_lem}
+use Rattle.circuit.proofs.CircuitLaws.{table_head, no_table_lem}
 use borrow.Author.Rules.{rules}
 use Rattle.circuit.proofs.address_bits.Statement.{statement}
 use Rattle.circuit.proofs.address_bits.Tie as tie

@@ -1,8 +1,8 @@
 -- What the word tells of the node.
 use mathlib.Core.Path.{◌∙◌}
 use native.Mathlib.Omega.{arith}
-use Rattle.circuit.specs.Code.{code_below}
-use Rattle.circuit.specs.CircuitLaws.{code_at, row_of}
+use Rattle.circuit.proofs.CodeLaws.{code_below}
+use Rattle.circuit.proofs.CircuitLaws.{code_at, row_of}
 use borrow.Author.Rules.{rules}
 use Rattle.circuit.proofs.code_of.Statement.{statement}
 use Rattle.circuit.proofs.code_of.Tie as tie

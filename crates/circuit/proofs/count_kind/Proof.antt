@@ -8,7 +8,7 @@ use Rattle.lists.specs.Lists.{count_below}
 use Rattle.netlist.specs.Net.{element_at}
 use Rattle.circuit.specs.Code.{code_of}
 use Rattle.circuit.specs.Circuit.{net_of}
-use Rattle.circuit.specs.CircuitLaws.{kind_counted}
+use Rattle.circuit.proofs.CircuitLaws.{kind_counted}
 use Rattle.circuit.proofs.count_kind.Statement.{statement}
 use Rattle.circuit.proofs.count_kind.Tie as tie
 

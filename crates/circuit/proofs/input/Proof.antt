@@ -1,7 +1,7 @@
 -- By the code.
 use Rattle.netlist.specs.Net.{element_at}
 use Rattle.circuit.specs.Circuit.{net_of}
-use Rattle.circuit.specs.CircuitLaws.{input_is}
+use Rattle.circuit.proofs.CircuitLaws.{input_is}
 use borrow.Author.Rules.{rules}
 use Rattle.circuit.proofs.input.Statement.{statement}
 use Rattle.circuit.proofs.input.Tie as tie

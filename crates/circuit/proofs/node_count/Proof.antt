@@ -1,7 +1,7 @@
 -- What the header counts.
 use mathlib.Core.Path.{sym, ◌∙◌}
 use native.Mathlib.Omega.{arith}
-use Rattle.circuit.specs.CircuitLaws.{size_of}
+use Rattle.circuit.proofs.CircuitLaws.{size_of}
 use borrow.Author.Rules.{rules}
 use Rattle.circuit.proofs.node_count.Statement.{statement}
 use Rattle.circuit.proofs.node_count.Tie as tie

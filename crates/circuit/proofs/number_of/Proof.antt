@@ -4,7 +4,7 @@ use Prim.Native.Nat.{ℕ}
 use Rattle.netlist.specs.Net.{element_at}
 use Rattle.circuit.specs.Circuit.{net_of}
 use Rattle.circuit.specs.Code.{number_or}
-use Rattle.circuit.specs.CircuitLaws.{number_at}
+use Rattle.circuit.proofs.CircuitLaws.{number_at}
 use borrow.Author.Rules.{rules}
 use Rattle.circuit.proofs.number_of.Statement.{statement}
 use Rattle.circuit.proofs.number_of.Tie as tie

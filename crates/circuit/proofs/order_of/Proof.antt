@@ -1,7 +1,7 @@
 -- What the word tells of the node.
 use mathlib.Core.Path.{sym, ◌∙◌}
 use native.Mathlib.Omega.{arith}
-use Rattle.circuit.specs.CircuitLaws.{size_of, order_at}
+use Rattle.circuit.proofs.CircuitLaws.{size_of, order_at}
 use borrow.Author.Rules.{rules}
 use Rattle.circuit.proofs.order_of.Statement.{statement}
 use Rattle.circuit.proofs.order_of.Tie as tie

@@ -1,7 +1,7 @@
 -- By the code.
 use Rattle.netlist.specs.Net.{element_at}
 use Rattle.circuit.specs.Circuit.{net_of}
-use Rattle.circuit.specs.CircuitLaws.{output_is}
+use Rattle.circuit.proofs.CircuitLaws.{output_is}
 use borrow.Author.Rules.{rules}
 use Rattle.circuit.proofs.output.Statement.{statement}
 use Rattle.circuit.proofs.output.Tie as tie

@@ -2,7 +2,7 @@
 use mathlib.Core.Path.{◌≡◌}
 use native.Mathlib.Omega.{arith}
 use lib.ListN.{length, length-set}
-use Rattle.circuit.specs.Building.{three_are, row_put}
+use Rattle.circuit.proofs.Building.{three_are, row_put}
 use borrow.Author.Rules.{rules}
 use Rattle.circuit.proofs.push_row.Statement.{statement}
 use Rattle.circuit.proofs.push_row.Tie as tie

@@ -1,7 +1,7 @@
 -- A word that no node shows.
 use native.Mathlib.Omega.{arith}
-use Rattle.circuit.specs.CircuitLaws.{size_is}
-use Rattle.circuit.specs.Ordering.{net_same, circuit_same, order_put}
+use Rattle.circuit.proofs.CircuitLaws.{size_is}
+use Rattle.circuit.proofs.Ordering.{net_same, circuit_same, order_put}
 use borrow.Author.Rules.{rules}
 use Rattle.circuit.proofs.put_order.Statement.{statement}
 use Rattle.circuit.proofs.put_order.Tie as tie

@@ -1,7 +1,7 @@
 -- By the code.
 use Rattle.netlist.specs.Net.{element_at}
 use Rattle.circuit.specs.Circuit.{net_of}
-use Rattle.circuit.specs.CircuitLaws.{register_is}
+use Rattle.circuit.proofs.CircuitLaws.{register_is}
 use borrow.Author.Rules.{rules}
 use Rattle.circuit.proofs.register.Statement.{statement}
 use Rattle.circuit.proofs.register.Tie as tie

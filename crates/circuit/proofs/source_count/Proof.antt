@@ -2,9 +2,9 @@
 use mathlib.Core.Path.{◌∙◌}
 use native.Mathlib.Omega.{arith}
 use Rattle.netlist.specs.Net.{element_at}
-use Rattle.netlist.specs.NodeLaws.{few_operands}
+use Rattle.netlist.proofs.NodeLaws.{few_operands}
 use Rattle.circuit.specs.Circuit.{net_of}
-use Rattle.circuit.specs.CircuitLaws.{count_at}
+use Rattle.circuit.proofs.CircuitLaws.{count_at}
 use borrow.Author.Rules.{rules}
 use Rattle.circuit.proofs.source_count.Statement.{statement}
 use Rattle.circuit.proofs.source_count.Tie as tie

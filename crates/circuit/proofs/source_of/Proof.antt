@@ -1,6 +1,6 @@
 -- What the word tells of the node.
 use mathlib.Core.Path.{◌∙◌}
-use Rattle.circuit.specs.CircuitLaws.{source_at}
+use Rattle.circuit.proofs.CircuitLaws.{source_at}
 use borrow.Author.Rules.{rules}
 use Rattle.circuit.proofs.source_of.Statement.{statement}
 use Rattle.circuit.proofs.source_of.Tie as tie

@@ -1,7 +1,7 @@
 -- What the header counts.
 use mathlib.Core.Path.{sym, ◌∙◌}
 use native.Mathlib.Omega.{arith}
-use Rattle.circuit.specs.CircuitLaws.{size-tables, tables_of_lem}
+use Rattle.circuit.proofs.CircuitLaws.{size-tables, tables_of_lem}
 use borrow.Author.Rules.{rules}
 use Rattle.circuit.proofs.table_count.Statement.{statement}
 use Rattle.circuit.proofs.table_count.Tie as tie

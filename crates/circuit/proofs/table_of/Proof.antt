@@ -5,7 +5,7 @@ use native.Mathlib.Omega.{arith}
 use Rattle.netlist.specs.Net.{element_at}
 use Rattle.circuit.specs.Circuit.{net_of}
 use Rattle.circuit.specs.Code.{table_or}
-use Rattle.circuit.specs.CircuitLaws.{row_of, table_at}
+use Rattle.circuit.proofs.CircuitLaws.{row_of, table_at}
 use borrow.Author.Rules.{rules}
 use Rattle.circuit.proofs.table_of.Statement.{statement}
 use Rattle.circuit.proofs.table_of.Tie as tie

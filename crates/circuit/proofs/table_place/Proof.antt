@@ -6,7 +6,7 @@ use lib.ListN.{length}
 use Rattle.netlist.specs.ScanLaws.{TableAt}
 use Rattle.netlist.specs.File.{table_in}
 use Rattle.circuit.specs.Circuit.{tables_of}
-use Rattle.circuit.specs.CircuitLaws.{tables_of_lem, table_of, table_stands_lem}
+use Rattle.circuit.proofs.CircuitLaws.{tables_of_lem, table_of, table_stands_lem}
 use borrow.Author.Rules.{rules}
 use Rattle.circuit.proofs.table_place.Statement.{statement}
 use Rattle.circuit.proofs.table_place.Tie as tie

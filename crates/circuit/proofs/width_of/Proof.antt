@@ -1,7 +1,7 @@
 -- What the word tells of the node.
 use mathlib.Core.Path.{◌∙◌}
 use native.Mathlib.Omega.{arith}
-use Rattle.circuit.specs.CircuitLaws.{row_of, width_at_lem}
+use Rattle.circuit.proofs.CircuitLaws.{row_of, width_at_lem}
 use borrow.Author.Rules.{rules}
 use Rattle.circuit.proofs.width_of.Statement.{statement}
 use Rattle.circuit.proofs.width_of.Tie as tie

@@ -7,8 +7,8 @@ use lib.ListN.{get_or}
 use lib.Dec.{eqb}
 use borrow.Author.Tests.{lt-ltb, le-ltb, eq-eqb, ne_eqb}
 use Rattle.lists.specs.Lists.{any_below}
-use Rattle.lists.specs.BelowLaws.{any_below_intro}
-use Rattle.lists.specs.SearchLaws.{Passed, passed-more, any_passed}
+use Rattle.lists.proofs.BelowLaws.{any_below_intro}
+use Rattle.lists.proofs.SearchLaws.{Passed, passed-more, any_passed}
 use Rattle.netlist.specs.Net.{source}
 use Rattle.circuit.specs.Circuit.{net_of}
 use Rattle.order.specs.Pass.{on}

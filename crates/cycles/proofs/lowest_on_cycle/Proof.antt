@@ -3,7 +3,7 @@ use mathlib.Core.Path.{◌≡◌, sym, ◌∙◌}
 use Prim.Native.Nat.{ℕ, ◌-◌, ◌≤◌, ◌<◌}
 use native.Mathlib.Omega.{arith}
 use lib.ListN.{length, get_or, length-replicate}
-use Rattle.lists.specs.SearchLaws.{Passed, passed-more, lowest_here, lowest_past}
+use Rattle.lists.proofs.SearchLaws.{Passed, passed-more, lowest_here, lowest_past}
 use Rattle.netlist.specs.Net.{size}
 use Rattle.netlist.specs.Reach.{reaches_itself}
 use Rattle.circuit.specs.Circuit.{net_of}

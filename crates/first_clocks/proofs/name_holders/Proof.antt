@@ -4,7 +4,7 @@ use mathlib.Core.List.{List}
 use Prim.Native.Nat.{ℕ, ◌+◌, ◌-◌, ◌≤◌, ◌<◌}
 use native.Mathlib.Omega.{arith}
 use lib.ListN.{length, get_or, set, replicate}
-use Rattle.lists.specs.Sections.{section-length}
+use Rattle.lists.proofs.Sections.{section-length}
 use Rattle.behaviour.specs.Run.{zero_word}
 use Rattle.circuit.specs.Circuit.{net_of}
 use Rattle.first_clocks.specs.Holders.{Holder, Remembered}

@@ -4,11 +4,12 @@ use Prim.Native.Nat.{◌-◌}
 use native.Mathlib.Omega.{arith}
 use lib.ListN.{length}
 use Rattle.circuit.specs.Circuit.{tables_of, net_of}
-use Rattle.circuit.specs.Building.{Building, building_none, building_size, building_more, building_done}
+use Rattle.circuit.specs.Building.{Building}
+use Rattle.circuit.proofs.Building.{building_none, building_size, building_more, building_done}
 use Rattle.behaviour.specs.Run.{zero_word}
 use Rattle.retiming.specs.Gates.{gated_with}
 use Rattle.retiming.specs.Modes.{mode_timing}
-use Rattle.retiming.specs.Candidate.{size-new}
+use Rattle.retiming.proofs.Candidate.{size-new}
 use Rattle.layout.specs.Laid.{new_node_lem, laid}
 use borrow.Author.Rules.{rules}
 use Rattle.layout.proofs.lay_circuit.Statement.{statement}

@@ -1,6 +1,6 @@
 -- The numbers are searched; then 11, and 12, in that order; then the numbers become the timing's.
 use native.Mathlib.Omega.{arith}
-use Rattle.netlist.specs.VerdictLaws.{refuses_not}
+use Rattle.netlist.proofs.VerdictLaws.{refuses_not}
 use Rattle.leads.proofs.ByMode.{origin_is}
 use Rattle.leads.proofs.Settling.{now_settled, says_11, says_12, says_neither}
 use borrow.Author.Rules.{rules}

@@ -5,7 +5,7 @@ use native.Mathlib.Omega.{arith}
 use borrow.Author.Rules.{rules}
 use Rattle.netlist.specs.Net.{size}
 use Rattle.circuit.specs.Circuit.{net_of}
-use Rattle.lists.specs.SearchLaws.{Passed, passed-more, lowest_here, lowest_past}
+use Rattle.lists.proofs.SearchLaws.{Passed, passed-more, lowest_here, lowest_past}
 use Rattle.leads.specs.Debts.{owing_by}
 use Rattle.leads.proofs.lowest_owing.Statement.{statement}
 use Rattle.leads.proofs.lowest_owing.Tie as tie

@@ -7,8 +7,8 @@ use lib.ListN.{get_or}
 use borrow.Author.Rules.{rules}
 use borrow.Author.Tests.{lt-ltb, le-ltb}
 use lib.Dec.{ltb}
-use Rattle.lists.specs.BelowLaws.{any_below_intro}
-use Rattle.lists.specs.SearchLaws.{Passed, passed-more, any_passed}
+use Rattle.lists.proofs.BelowLaws.{any_below_intro}
+use Rattle.lists.proofs.SearchLaws.{Passed, passed-more, any_passed}
 use Rattle.leads.proofs.over_bound.Statement.{statement}
 use Rattle.leads.proofs.over_bound.Tie as tie
 

@@ -1,6 +1,6 @@
 -- The two ways of the test.
 use mathlib.Core.Path.{refl}
-use Rattle.lists.specs.Paths.{on_lt, off_lt}
+use Rattle.lists.proofs.Paths.{on_lt, off_lt}
 use Rattle.nodes.proofs.word_if.Statement.{statement}
 use Rattle.nodes.proofs.word_if.Tie as tie
 

@@ -1,6 +1,6 @@
 -- The first tables are entered.
 use mathlib.Core.Path.{sym}
-use Rattle.circuit.specs.CircuitLaws.{table_place}
+use Rattle.circuit.proofs.CircuitLaws.{table_place}
 use mathlib.Core.Path.{◌≡◌, refl, ◌∙◌}
 use Prim.Native.Nat.{◌-◌, ◌+◌}
 use native.Mathlib.Omega.{arith}

@@ -5,7 +5,7 @@ use native.Mathlib.Omega.{arith}
 use lib.ListN.{length, get_or}
 use Rattle.netlist.specs.Net.{size}
 use Rattle.circuit.specs.Circuit.{net_of, order_of, Circuit}
-use Rattle.circuit.specs.CircuitLaws.{size_of, size_order}
+use Rattle.circuit.proofs.CircuitLaws.{size_of, size_order}
 use Rattle.order.proofs.Places.{copied_more}
 use borrow.Author.Rules.{rules}
 use Rattle.order.proofs.keep_order.Statement.{statement}

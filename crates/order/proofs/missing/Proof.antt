@@ -7,8 +7,8 @@ use native.Mathlib.Omega.{arith}
 use lib.ListN.{get_or}
 use borrow.Author.Tests.{lt-ltb, le-ltb}
 use Rattle.lists.specs.Lists.{all_below}
-use Rattle.lists.specs.BelowLaws.{all_below_intro, lt-suc_split}
-use Rattle.lists.specs.SearchLaws.{all_fails}
+use Rattle.lists.proofs.BelowLaws.{all_below_intro, lt-suc_split}
+use Rattle.lists.proofs.SearchLaws.{all_fails}
 use Rattle.netlist.specs.Net.{size, element_at, source, in_clock, Sourced}
 use Rattle.circuit.specs.Circuit.{net_of}
 use Rattle.order.specs.Pass.{on}

@@ -2,7 +2,7 @@
 use native.Mathlib.Omega.{arith}
 use lib.Dec.{eqb}
 use borrow.Author.Rules.{rules}
-use Rattle.lists.specs.BelowLaws.{count_below-le}
+use Rattle.lists.proofs.BelowLaws.{count_below-le}
 use Rattle.netlist.specs.Net.{size, element_at}
 use Rattle.circuit.specs.Code.{code_of}
 use Rattle.circuit.specs.Circuit.{net_of}

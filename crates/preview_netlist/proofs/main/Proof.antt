@@ -2,7 +2,7 @@
 use mathlib.Core.Path.{sym, ◌∙◌}
 use native.Mathlib.Omega.{arith}
 use borrow.Author.Rules.{rules}
-use Rattle.retiming.specs.PreviewLaws.{fits_room}
+use Rattle.retiming.proofs.PreviewLaws.{fits_room}
 use Rattle.preview_netlist.proofs.main.Statement.{statement}
 use Rattle.preview_netlist.proofs.main.Tie as tie
 

@@ -2,7 +2,8 @@
 use mathlib.Core.Path.{refl, sym, ◌∙◌}
 use native.Mathlib.Omega.{arith}
 use lib.ListN.{length}
-use Rattle.lists.specs.Paths.{on_lt, off_lt, on_eq, off_eq, pick}
+use Rattle.lists.specs.Paths.{pick}
+use Rattle.lists.proofs.Paths.{on_lt, off_lt, on_eq, off_eq}
 use Rattle.netlist.specs.Scan.{after_head}
 use Rattle.netlist.specs.Field.{field_end, length_at}
 use borrow.Author.Rules.{rules}

@@ -2,7 +2,7 @@
 use mathlib.Core.Path.{refl}
 use native.Mathlib.Omega.{arith}
 use lib.ListN.{length}
-use Rattle.lists.specs.Paths.{on_lt, off_lt}
+use Rattle.lists.proofs.Paths.{on_lt, off_lt}
 use Rattle.netlist.specs.Field.{field_end}
 use Rattle.reader.specs.Fields.{whole}
 use borrow.Author.Rules.{rules}

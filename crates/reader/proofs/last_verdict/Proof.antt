@@ -1,7 +1,7 @@
 -- `last_verdict` follows the definition, one law for each test on the way.
 use mathlib.Core.Path.{refl, sym, ap, ◌∙◌}
 use native.Mathlib.Omega.{arith}
-use Rattle.lists.specs.Paths.{on_true, on_false, on_eq, off_eq}
+use Rattle.lists.proofs.Paths.{on_true, on_false, on_eq, off_eq}
 use Rattle.netlist.specs.Scan.{end_step}
 use Rattle.reader.specs.Fields.{whole_inside, last_step, verdict_of}
 use borrow.Author.Rules.{rules}

@@ -4,7 +4,7 @@ use Prim.Native.Nat.{ℕ, ◌+◌}
 use native.Mathlib.Omega.{arith}
 use native.Mathlib.Nat.{add-sub_cancel_left}
 use lib.ListN.{take, drop}
-use Rattle.lists.specs.Paths.{on_true, on_false, on_lt, off_lt, on_eq, off_eq}
+use Rattle.lists.proofs.Paths.{on_true, on_false, on_lt, off_lt, on_eq, off_eq}
 use Rattle.netlist.specs.NodeField.{node_read}
 use Rattle.netlist.specs.Scan.{NodeField, node_step}
 use borrow.Author.Rules.{rules}

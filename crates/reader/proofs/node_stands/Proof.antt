@@ -1,7 +1,7 @@
 -- `node_stands` follows the definition.
 use mathlib.Core.Path.{refl, sym, ◌∙◌}
 use native.Mathlib.Omega.{arith}
-use Rattle.lists.specs.Paths.{on_true, on_false}
+use Rattle.lists.proofs.Paths.{on_true, on_false}
 use Rattle.reader.specs.Fields.{whole_inside, node_stands}
 use borrow.Author.Rules.{rules}
 use Rattle.reader.proofs.node_stands.Statement.{statement}

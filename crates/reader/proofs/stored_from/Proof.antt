@@ -1,7 +1,7 @@
 -- Tag 2, or not.
 use mathlib.Core.Path.{refl}
 use native.Mathlib.Omega.{arith}
-use Rattle.lists.specs.Paths.{on_eq, off_eq}
+use Rattle.lists.proofs.Paths.{on_eq, off_eq}
 use Rattle.reader.proofs.stored_from.Statement.{statement}
 use Rattle.reader.proofs.stored_from.Tie as tie
 

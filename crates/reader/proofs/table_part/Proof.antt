@@ -4,10 +4,10 @@ use Prim.Native.Nat.{ℕ, ◌+◌, ◌-◌}
 use native.Mathlib.Omega.{arith}
 use lib.ListN.{take, drop}
 use lib.Seq.{drop-drop}
-use Rattle.lists.specs.Parts.{drop-take}
+use Rattle.lists.proofs.Parts.{drop-take}
 use Rattle.netlist.specs.Field.{tag_at, length_at}
 use Rattle.netlist.specs.TableField.{stored_from}
-use Rattle.netlist.specs.TableWords.{stored_inside}
+use Rattle.netlist.proofs.TableWords.{stored_inside}
 use borrow.Author.Rules.{rules}
 use Rattle.reader.proofs.table_part.Statement.{statement}
 use Rattle.reader.proofs.table_part.Tie as tie

@@ -1,7 +1,7 @@
 -- `table_stands` follows the definition.
 use mathlib.Core.Path.{refl, sym, ◌∙◌}
 use native.Mathlib.Omega.{arith}
-use Rattle.lists.specs.Paths.{on_true, on_false, on_eq, off_eq}
+use Rattle.lists.proofs.Paths.{on_true, on_false, on_eq, off_eq}
 use Rattle.reader.specs.Fields.{whole_inside, table_stands}
 use borrow.Author.Rules.{rules}
 use Rattle.reader.proofs.table_stands.Statement.{statement}

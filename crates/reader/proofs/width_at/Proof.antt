@@ -5,8 +5,8 @@ use native.Mathlib.Omega.{arith}
 use lib.ListN.{get_or, drop}
 use Rattle.netlist.specs.Field.{content, length_at}
 use Rattle.netlist.specs.File.{node_in}
-use Rattle.netlist.specs.NodeLaws.{node_facts, node_width}
-use Rattle.netlist.specs.FieldLaws.{content-length}
+use Rattle.netlist.proofs.NodeLaws.{node_facts, node_width}
+use Rattle.netlist.proofs.FieldLaws.{content-length}
 use borrow.Author.Rules.{rules}
 use lib.Seq.{get_or-drop, get_or-take}
 use Rattle.reader.proofs.width_at.Statement.{statement}

@@ -5,7 +5,7 @@ use Prim.Native.Nat.{ℕ}
 use native.Mathlib.Omega.{arith}
 use lib.ListN.{drop, length-replicate}
 use lib.Seq.{length_front, length-take-le}
-use Rattle.netlist.specs.VerdictLaws.{refuses_not}
+use Rattle.netlist.proofs.VerdictLaws.{refuses_not}
 use Rattle.circuit.specs.Circuit.{net_of}
 use Rattle.retiming.specs.declared.Mode.{Mode}
 use Rattle.retiming.specs.Modes.{mode_timing}

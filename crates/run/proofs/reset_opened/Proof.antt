@@ -3,7 +3,7 @@ use mathlib.Core.Path.{ap, ◌∙◌}
 use Rattle.netlist.specs.declared.Answer.TheVariants.{Accepted}
 use Rattle.circuit.specs.Circuit.{net_of}
 use Rattle.evaluate.specs.declared.Row.TheVariants.{State}
-use Rattle.behaviour.specs.Parts.{filled}
+use Rattle.behaviour.proofs.Parts.{filled}
 use Rattle.run.proofs.Outcomes.{counted, row_bytes_lem, row_room, row_other, reset_done, reset_refused}
 use borrow.Author.Rules.{rules}
 use Rattle.run.proofs.reset_opened.Statement.{statement}

@@ -1,7 +1,7 @@
 -- What opening tells, and the reset over the netlist.
 use mathlib.Core.Path.{◌∙◌}
 use Rattle.checks.specs.Opens.{opened-refused, opened_fine}
-use Rattle.behaviour.specs.Parts.{filled}
+use Rattle.behaviour.proofs.Parts.{filled}
 use Rattle.run.proofs.Opened.{reset_turned_away, reset_taken}
 use borrow.Author.Rules.{rules}
 use Rattle.run.proofs.reset_state.Statement.{statement}

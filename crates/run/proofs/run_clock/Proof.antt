@@ -3,7 +3,7 @@ use mathlib.Core.Path.{◌∙◌}
 use native.Mathlib.Omega.{arith}
 use Rattle.codec.specs.Bytes.{Bytes}
 use Rattle.checks.specs.Opens.{opened-refused, opened_fine, open_formed, open_inside}
-use Rattle.behaviour.specs.Parts.{ran}
+use Rattle.behaviour.proofs.Parts.{ran}
 use Rattle.run.proofs.Opened.{run_turned_away, run_taken}
 use borrow.Author.Rules.{rules}
 use Rattle.run.proofs.run_clock.Statement.{statement}

@@ -6,7 +6,7 @@ use native.Mathlib.Omega.{arith}
 use Rattle.netlist.specs.declared.Answer.TheVariants.{Accepted}
 use Rattle.circuit.specs.Circuit.{net_of}
 use Rattle.behaviour.specs.Service.{bytes_of}
-use Rattle.behaviour.specs.Parts.{ran}
+use Rattle.behaviour.proofs.Parts.{ran}
 use Rattle.evaluate.specs.declared.Row.TheVariants.{Outputs, State}
 use Rattle.run.proofs.Joined.{inputs_fit, run_fits, run_outputs_lem, run_state_lem}
 use Rattle.run.proofs.Outcomes.{counted, row_bytes_lem, row_near, row_room, row_other, row_length, run_inputs, run_room, run_refused, run_done}

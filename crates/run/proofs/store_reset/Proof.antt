@@ -4,7 +4,7 @@ use mathlib.Core.List.{List}
 use Prim.Native.Nat.{ℕ, ◌+◌, ◌-◌}
 use native.Mathlib.Omega.{arith}
 use lib.ListN.{length}
-use Rattle.lists.specs.SelectLaws.{member, members_map}
+use Rattle.lists.proofs.SelectLaws.{member, members_map}
 use Rattle.netlist.specs.Net.{size, element_at}
 use Rattle.circuit.specs.Circuit.{net_of}
 use Rattle.behaviour.specs.Run.{holds_first, reset_state}

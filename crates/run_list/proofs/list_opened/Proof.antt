@@ -5,9 +5,9 @@ use Rattle.netlist.specs.Net.{Net}
 use Rattle.netlist.specs.declared.Answer.TheVariants.{Accepted}
 use Rattle.circuit.specs.Circuit.{order_of, net_of}
 use Rattle.behaviour.specs.Service.{bytes_of, words_in}
-use Rattle.behaviour.specs.Parts.{ran}
+use Rattle.behaviour.proofs.Parts.{ran}
 use Rattle.behaviour.specs.RunListLaws.{states_from, row_words}
-use Rattle.behaviour.specs.NoneRefused.{list_tests}
+use Rattle.behaviour.proofs.NoneRefused.{list_tests}
 use borrow.Author.Rules.{rules}
 use Rattle.run_list.specs.Clocks.{shown_at}
 use Rattle.run_list.specs.ListNet.{Asked, net_as}

@@ -10,7 +10,7 @@ use lib.Dec.{eqb}
 use borrow.Author.Count.{below_more}
 use borrow.Author.Rules.{rules}
 use borrow.Author.Tests.{not-true, not-false}
-use Rattle.lists.specs.BelowLaws.{eqb-true}
+use Rattle.lists.proofs.BelowLaws.{eqb-true}
 use Rattle.circuit.specs.Circuit.{net_of}
 use Rattle.behaviour.specs.Service.{fitting_bytes}
 use Rattle.behaviour.specs.RunList.{row_bytes, byte_row}

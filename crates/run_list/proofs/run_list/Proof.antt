@@ -3,9 +3,9 @@ use mathlib.Core.Path.{◌∙◌}
 use native.Mathlib.Omega.{arith}
 use Rattle.codec.specs.Bytes.{Bytes}
 use Rattle.checks.specs.Opens.{opened-refused, opened_fine, open_formed, open_inside}
-use Rattle.behaviour.specs.RunListLaws.{list_turned_away}
+use Rattle.behaviour.proofs.RunListLaws.{list_turned_away}
 use borrow.Author.Rules.{rules}
-use Rattle.behaviour.specs.Parts.{ran}
+use Rattle.behaviour.proofs.Parts.{ran}
 use Rattle.run_list.specs.ListNet.{list_net_lem}
 use Rattle.run_list.proofs.run_list.Statement.{statement}
 use Rattle.run_list.proofs.run_list.Tie as tie

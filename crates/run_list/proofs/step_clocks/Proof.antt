@@ -7,12 +7,12 @@ use native.Mathlib.Numerals.{add-one}
 use native.Mathlib.Omega.{arith}
 use lib.ListN.{length}
 use borrow.Rule.Slice.PartMut.{mid_len}
-use Rattle.lists.specs.BelowLaws.{eqb-true}
+use Rattle.lists.proofs.BelowLaws.{eqb-true}
 use Rattle.circuit.specs.Circuit.{net_of}
 use Rattle.behaviour.specs.Runs.{input_widths, output_widths, fitting}
 use Rattle.behaviour.specs.Service.{words_in}
 use Rattle.behaviour.specs.RunList.{row_bytes}
-use Rattle.behaviour.specs.RunListLaws.{row_fits}
+use Rattle.behaviour.proofs.RunListLaws.{row_fits}
 use Rattle.stepping.specs.Clock.{state_in}
 use Rattle.run_list.specs.Clocks.{Clocked, clocked_none, clocked_length, clocked_all, clocked_more, scheduled_rows, input_end, input_row, input_long, output_end, output_room, clocked_fits, shown_long}
 use Rattle.run_list.proofs.step_clocks.Statement.{statement}

@@ -6,10 +6,10 @@ use native.Mathlib.Nat.{zero-add}
 use native.Mathlib.Omega.{arith}
 use lib.ListN.{length, get_or}
 use Rattle.lists.specs.Lists.{below}
-use Rattle.lists.specs.BelowLaws.{length-below, get_or_up_from}
+use Rattle.lists.proofs.BelowLaws.{length-below, get_or_up_from}
 use Rattle.behaviour.specs.Service.{bytes_of}
 use Rattle.evaluate.specs.Filling.{Filling, fill_none, fill_put, fill_room, fill_kept, fill_all}
-use Rattle.lists.specs.Sections.{section_listed}
+use Rattle.lists.proofs.Sections.{section_listed}
 use Rattle.run_list.proofs.store_state.Statement.{statement}
 use Rattle.run_list.proofs.store_state.Tie as tie
 

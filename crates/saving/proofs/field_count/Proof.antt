@@ -1,7 +1,7 @@
 -- The head and the end besides.
 use native.Mathlib.Omega.{arith}
 use Rattle.circuit.specs.Circuit.{net_of}
-use Rattle.netlist.specs.Offsets.{fields_count}
+use Rattle.netlist.proofs.Offsets.{fields_count}
 use borrow.Author.Rules.{rules}
 use Rattle.saving.proofs.field_count.Statement.{statement}
 use Rattle.saving.proofs.field_count.Tie as tie

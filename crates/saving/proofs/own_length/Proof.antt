@@ -1,7 +1,8 @@
 -- At each code that an arm names `ownLength` computes.
 use mathlib.Core.Path.{refl, sym, ap}
 use native.Mathlib.Omega.{arith}
-use Rattle.lists.specs.Paths.{pick, off_eq, on_lt, off_lt}
+use Rattle.lists.specs.Paths.{pick}
+use Rattle.lists.proofs.Paths.{off_eq, on_lt, off_lt}
 use Rattle.saving.specs.Lengths.{own_length}
 use Rattle.saving.proofs.own_length.Statement.{statement}
 use Rattle.saving.proofs.own_length.Tie as tie

@@ -7,7 +7,8 @@ use lib.ListN.{length}
 use Rattle.netlist.specs.Net.{size}
 use Rattle.netlist.specs.Field.{field}
 use Rattle.netlist.specs.File.{table_in, table_bytes, node_bytes}
-use Rattle.netlist.specs.Offsets.{field_at, fields_count, head_field, table-field, node_field, end-field}
+use Rattle.netlist.specs.Offsets.{field_at}
+use Rattle.netlist.proofs.Offsets.{fields_count, head_field, table-field, node_field, end-field}
 use Rattle.circuit.specs.Circuit.{net_of}
 use Rattle.saving.specs.Encoded.{field_fits, field_put}
 use borrow.Author.Rules.{rules}

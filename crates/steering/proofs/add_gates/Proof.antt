@@ -4,7 +4,7 @@ use Prim.Native.Nat.{◌≤◌}
 use native.Mathlib.Omega.{arith}
 use Rattle.circuit.specs.Circuit.{net_of}
 use Rattle.retiming.specs.Modes.{mode_timing}
-use Rattle.retiming.specs.ModeLaws.{origin_plain}
+use Rattle.retiming.proofs.ModeLaws.{origin_plain}
 use Rattle.steering.specs.SteeringLaws.{wired_is, gates_first, chain_nodes, steering_early, steering_over, steering_all}
 use borrow.Author.Rules.{rules}
 use Rattle.steering.proofs.add_gates.Statement.{statement}

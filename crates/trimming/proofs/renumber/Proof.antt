@@ -4,7 +4,7 @@ use Prim.Native.Nat.{ℕ, ◌-◌}
 use native.Mathlib.Omega.{arith}
 use lib.ListN.{length, get_or}
 use borrow.Author.Rules.{rules}
-use Rattle.circuit.specs.CircuitLaws.{size_is}
+use Rattle.circuit.proofs.CircuitLaws.{size_is}
 use Rattle.circuit.specs.Renumbering.{Retabled}
 use Rattle.trimming.specs.Renumbering.{Renumbering, renumbering_none, still_size, still_circuit, renumbering_more, renumbering_done}
 use Rattle.trimming.proofs.renumber.Statement.{statement}

@@ -1,6 +1,6 @@
 -- The sum of two bits.
 use Rattle.netlist.specs.Net.{element_at, is_memory}
-use Rattle.netlist.specs.Memories.{memory_kinds}
+use Rattle.netlist.proofs.Memories.{memory_kinds}
 use Rattle.circuit.specs.Circuit.{net_of}
 use mathlib.Core.Path.{ap₂, ◌∙◌}
 use Prim.Native.Nat.{◌+◌}

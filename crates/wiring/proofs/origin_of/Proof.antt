@@ -1,7 +1,7 @@
 -- 0, or two more than nodes.
 use native.Mathlib.Omega.{arith}
 use Rattle.circuit.specs.Circuit.{net_of}
-use Rattle.retiming.specs.ModeLaws.{origin_plain, origin-late}
+use Rattle.retiming.proofs.ModeLaws.{origin_plain, origin-late}
 use borrow.Author.Rules.{rules}
 use Rattle.wiring.proofs.origin_of.Statement.{statement}
 use Rattle.wiring.proofs.origin_of.Tie as tie

@@ -1,7 +1,7 @@
 -- Every node, or one whose number is above 0.
 use mathlib.Core.Path.{◌∙◌}
 use Rattle.circuit.specs.Circuit.{net_of}
-use Rattle.retiming.specs.ModeLaws.{stays_plain, stays-late}
+use Rattle.retiming.proofs.ModeLaws.{stays_plain, stays-late}
 use borrow.Author.Rules.{rules}
 use Rattle.wiring.proofs.stays.Statement.{statement}
 use Rattle.wiring.proofs.stays.Tie as tie

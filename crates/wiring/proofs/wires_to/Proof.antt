@@ -3,7 +3,7 @@ use mathlib.Core.Path.{sym, ◌∙◌}
 use native.Mathlib.Omega.{arith}
 use Rattle.netlist.specs.Net.{element_at, is_register}
 use Rattle.circuit.specs.Circuit.{net_of}
-use Rattle.lists.specs.BelowLaws.{bit_true, bit_false}
+use Rattle.lists.proofs.BelowLaws.{bit_true, bit_false}
 use Rattle.retiming.specs.Modes.{mode_timing}
 use Rattle.wiring.specs.WiringLaws.{register_wires, other_wires, count_left, count_kept, count_wires}
 use borrow.Author.Rules.{rules}

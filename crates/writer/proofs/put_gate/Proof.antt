@@ -7,7 +7,7 @@ use Rattle.words.specs.declared.Op.{Op}
 use Rattle.netlist.specs.declared.Element.TheVariants.{Gate}
 use Rattle.netlist.specs.declared.Node.{Node}
 use Rattle.netlist.specs.File.{node_bytes}
-use Rattle.codec.specs.ContentLength.{few_sources}
+use Rattle.codec.proofs.ContentLength.{few_sources}
 use Rattle.writer.specs.Written.{puts_as, puts_more}
 use Rattle.writer.specs.NodeWritten.{gate, content_sum, node_room, node_laid, one_source-laid, bare-laid}
 use Rattle.writer.proofs.Cases.{no_extra}

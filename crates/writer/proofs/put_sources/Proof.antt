@@ -3,7 +3,7 @@ use mathlib.Core.Path.{◌≡◌, ap}
 use Prim.Native.Nat.{ℕ, ◌-◌, ◌*◌, ◌≤◌, zero-le}
 use native.Mathlib.Omega.{arith}
 use Rattle.netlist.specs.NodeField.{source_bytes}
-use Rattle.codec.specs.ContentLength.{sources-more}
+use Rattle.codec.proofs.ContentLength.{sources-more}
 use Rattle.writer.specs.Turn.{Turn, start, same, fits, turns, ends}
 use Rattle.writer.proofs.put_sources.Statement.{statement}
 use Rattle.writer.proofs.put_sources.Tie as tie

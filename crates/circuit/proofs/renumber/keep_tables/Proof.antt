@@ -4,8 +4,8 @@ use mathlib.Core.Logic.{⊎_elim}
 use Prim.Native.Nat.{ℕ, ◌-◌, ◌≤◌}
 use native.Mathlib.Omega.{arith}
 use borrow.Author.Rules.{rules}
-use Rattle.circuit.specs.CircuitLaws.{size-tables}
-use Rattle.circuit.specs.Keeping.{Keeping, keeping_none, keeping_past, keeping_more, tables_kept}
+use Rattle.circuit.proofs.CircuitLaws.{size-tables}
+use Rattle.circuit.proofs.Keeping.{Keeping, keeping_none, keeping_past, keeping_more, tables_kept}
 use Rattle.circuit.proofs.renumber.keep_tables.Statement.{statement}
 use Rattle.circuit.proofs.renumber.keep_tables.Tie as tie
 

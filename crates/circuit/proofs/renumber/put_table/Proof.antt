@@ -1,6 +1,6 @@
 -- One word, which its row alone shows.
 use borrow.Author.Rules.{rules}
-use Rattle.circuit.specs.Retabling.{table-put}
+use Rattle.circuit.proofs.Retabling.{table-put}
 use Rattle.circuit.proofs.renumber.put_table.Statement.{statement}
 use Rattle.circuit.proofs.renumber.put_table.Tie as tie
 

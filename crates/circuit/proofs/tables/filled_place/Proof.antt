@@ -2,7 +2,7 @@
 use mathlib.Core.Path.{◌≡◌}
 use native.Mathlib.Omega.{arith}
 use Rattle.netlist.specs.Field.{length_at}
-use Rattle.netlist.specs.TableWords.{filled_long, stored_stands, fill_stands}
+use Rattle.netlist.proofs.TableWords.{filled_long, stored_stands, fill_stands}
 use borrow.Author.Rules.{rules}
 use Rattle.circuit.proofs.tables.filled_place.Statement.{statement}
 use Rattle.circuit.proofs.tables.filled_place.Tie as tie

@@ -1,7 +1,7 @@
 -- By the tag.
 use mathlib.Core.Path.{◌∙◌}
 use native.Mathlib.Omega.{arith}
-use Rattle.netlist.specs.TableWords.{two_tags, word_stands}
+use Rattle.netlist.proofs.TableWords.{two_tags, word_stands}
 use borrow.Author.Rules.{rules}
 use Rattle.circuit.proofs.tables.word_in.Statement.{statement}
 use Rattle.circuit.proofs.tables.word_in.Tie as tie

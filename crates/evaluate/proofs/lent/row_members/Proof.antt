@@ -5,7 +5,7 @@ use native.Mathlib.Omega.{arith}
 use lib.ListN.{length, take, set, length-set}
 use borrow.Author.Rules.{rules}
 use Rattle.lists.specs.Lists.{one, select}
-use Rattle.lists.specs.SelectLaws.{list_more}
+use Rattle.lists.proofs.SelectLaws.{list_more}
 use Rattle.netlist.specs.Net.{size}
 use Rattle.circuit.specs.Circuit.{net_of}
 use Rattle.evaluate.specs.Rows.{row_test}

@@ -2,7 +2,7 @@
 use mathlib.Core.Path.{◌≡◌, refl, sym, subst, ◌∙◌}
 use Prim.Native.Nat.{ℕ, ◌≤◌, ◌<◌}
 use native.Mathlib.Omega.{arith}
-use Rattle.lists.specs.Sections.{section-read}
+use Rattle.lists.proofs.Sections.{section-read}
 use Rattle.circuit.specs.Circuit.{net_of}
 use Rattle.retiming.specs.Rewrite.{root, passed}
 use Rattle.first_clocks.specs.Holders.{Holder, holder_root}

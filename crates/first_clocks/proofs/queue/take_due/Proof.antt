@@ -6,8 +6,8 @@ use Prim.Native.Nat.{ℕ, ◌+◌, ◌-◌, ◌%◌, ◌<◌}
 use native.Mathlib.Omega.{arith}
 use native.Mathlib.Nat.{zero-lt-suc, mod-lt}
 use lib.ListN.{length, get_or}
-use Rattle.lists.specs.BelowLaws.{lt_or_le}
-use Rattle.lists.specs.Sections.{section-length, section-read}
+use Rattle.lists.proofs.BelowLaws.{lt_or_le}
+use Rattle.lists.proofs.Sections.{section-length, section-read}
 use Rattle.lists.specs.Linked.{From}
 use Rattle.first_clocks.specs.Queue.{slots_in, dues_in, InSlot, Queued, TakenTo, look_none, look_more, look_past, AlongSlot, along_slot}
 use borrow.Author.Rules.{rules}

@@ -3,7 +3,7 @@ use mathlib.Core.Path.{sym, ◌∙◌}
 use Prim.Native.Nat.{◌+◌, ◌-◌}
 use native.Mathlib.Omega.{arith}
 use lib.Seq.{length-take-le}
-use Rattle.lists.specs.Sections.{section-length}
+use Rattle.lists.proofs.Sections.{section-length}
 use Rattle.layout.specs.EntryWords.{entry-words}
 use borrow.Author.Rules.{rules}
 use Rattle.layout.proofs.reset.entry_words.Statement.{statement}

@@ -9,7 +9,7 @@ use Rattle.lists.specs.Lists.{largest}
 use Rattle.circuit.specs.Circuit.{net_of}
 use Rattle.retiming.specs.Leads.{lead}
 use Rattle.retiming.specs.Rewrite.{timing, timing_by}
-use Rattle.retiming.specs.LargestLead.{leads-largest}
+use Rattle.retiming.proofs.LargestLead.{leads-largest}
 use Rattle.leads.proofs.largest.largest_lead.Statement.{statement}
 use Rattle.leads.proofs.largest.largest_lead.Tie as tie
 

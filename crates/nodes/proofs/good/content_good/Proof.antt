@@ -1,7 +1,7 @@
 -- The tests of `elementRead`, then the kind.
 use mathlib.Core.Path.{refl, ap, ◌∙◌}
 use borrow.Author.Rules.{rules}
-use Rattle.lists.specs.Paths.{on_lt, off_lt, on_eq, off_eq}
+use Rattle.lists.proofs.Paths.{on_lt, off_lt, on_eq, off_eq}
 use Rattle.netlist.specs.NodeField.{element_read, node_with, node_read}
 use Rattle.netlist.specs.declared.ElementRead.{ElementRead}
 use Rattle.nodes.proofs.good.content_good.Statement.{statement}

@@ -1,7 +1,8 @@
 -- At 0 and at 10 `extra` computes.
 use mathlib.Core.Path.{refl, sym, ap}
 use native.Mathlib.Omega.{arith}
-use Rattle.lists.specs.Paths.{pick, off_eq}
+use Rattle.lists.specs.Paths.{pick}
+use Rattle.lists.proofs.Paths.{off_eq}
 use Rattle.netlist.specs.NodeField.{extra}
 use Rattle.nodes.proofs.good.held.Statement.{statement}
 use Rattle.nodes.proofs.good.held.Tie as tie

@@ -3,7 +3,8 @@ use mathlib.Core.Path.{refl, sym, ap, ◌∙◌}
 use Prim.Native.Nat.{ℕ}
 use lib.ListN.{get_or}
 use borrow.Author.Rules.{rules}
-use Rattle.lists.specs.Paths.{pick, off_eq}
+use Rattle.lists.specs.Paths.{pick}
+use Rattle.lists.proofs.Paths.{off_eq}
 use Rattle.words.specs.Words.{word}
 use Rattle.netlist.specs.Net.{rom}
 use Rattle.netlist.specs.NodeField.{kind_read, node_with}

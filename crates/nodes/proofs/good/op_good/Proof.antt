@@ -5,7 +5,8 @@ use Prim.Native.Nat.{ℕ}
 use native.Mathlib.Omega.{arith}
 use lib.ListN.{length, get_or}
 use borrow.Author.Rules.{rules}
-use Rattle.lists.specs.Paths.{pick, on_lt, off_lt, on_eq, off_eq, arms}
+use Rattle.lists.specs.Paths.{pick}
+use Rattle.lists.proofs.Paths.{on_lt, off_lt, on_eq, off_eq, arms}
 use Rattle.words.specs.Words.{fits, word}
 use Rattle.words.specs.declared.Op.TheVariants.{Constant}
 use Rattle.netlist.specs.NodeField.{gate_length, op_read, gate_read, node_with}

@@ -3,7 +3,7 @@ use mathlib.Core.Path.{refl, ap, ◌∙◌}
 use Prim.Native.Nat.{ℕ}
 use lib.ListN.{get_or}
 use borrow.Author.Rules.{rules}
-use Rattle.lists.specs.Paths.{on_eq, off_eq}
+use Rattle.lists.proofs.Paths.{on_eq, off_eq}
 use Rattle.words.specs.Words.{fits}
 use Rattle.netlist.specs.NodeField.{node_with}
 use Rattle.netlist.specs.declared.ElementRead.{ElementRead}

@@ -4,8 +4,8 @@ use Prim.Native.Nat.{◌+◌, ◌-◌, ◌≤◌, ◌<◌}
 use native.Mathlib.Omega.{arith}
 use mathlib.Core.Logic.{⊎_elim}
 use lib.ListN.{length, get_or}
-use Rattle.lists.specs.BelowLaws.{lt_or_le}
-use Rattle.lists.specs.Sections.{section-read}
+use Rattle.lists.proofs.BelowLaws.{lt_or_le}
+use Rattle.lists.proofs.Sections.{section-read}
 use Rattle.wiring.specs.Wiring.{ends_in, clocks_in}
 use Rattle.wiring.specs.Links.{From}
 use borrow.Author.Rules.{rules}

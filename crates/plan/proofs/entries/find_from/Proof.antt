@@ -5,8 +5,8 @@ use Prim.Native.Nat.{ℕ, suc, ◌-◌, ◌≤◌, ◌<◌}
 use native.Mathlib.Omega.{arith}
 use lib.ListN.{get_or}
 use borrow.Author.Rules.{rules}
-use Rattle.lists.specs.BelowLaws.{lt-suc_split}
-use Rattle.lists.specs.Sections.{section-read}
+use Rattle.lists.proofs.BelowLaws.{lt-suc_split}
+use Rattle.lists.proofs.Sections.{section-read}
 use Rattle.plan.specs.Areas.{words_in}
 use Rattle.plan.proofs.entries.find_from.Statement.{statement}
 use Rattle.plan.proofs.entries.find_from.Tie as tie

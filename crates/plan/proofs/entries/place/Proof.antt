@@ -2,11 +2,11 @@
 use mathlib.Core.Path.{◌≡◌, refl, sym, ◌∙◌}
 use Prim.Native.Nat.{◌*◌}
 use native.Mathlib.Omega.{arith}
-use Rattle.lists.specs.Sections.{section-read}
+use Rattle.lists.proofs.Sections.{section-read}
 use Rattle.netlist.specs.Net.{size, element_at, is_register, is_memory}
 use Rattle.circuit.specs.Circuit.{net_of}
 use Rattle.wiring.specs.Links.{chained_as}
-use Rattle.lists.specs.BelowLaws.{bit_true, bit_false}
+use Rattle.lists.proofs.BelowLaws.{bit_true, bit_false}
 use Rattle.plan.specs.EntriesLaws.{entries_register, entries_plain, placing_more, placing_as, placing_count, rom_placed, owners_room, words_room}
 use Rattle.plan.proofs.entries.place.Statement.{statement}
 use Rattle.plan.proofs.entries.place.Tie as tie

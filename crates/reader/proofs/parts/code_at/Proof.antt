@@ -3,7 +3,8 @@ use mathlib.Core.Path.{◌≡◌, ap, ◌∙◌}
 use Prim.Native.Nat.{◌+◌}
 use native.Mathlib.Omega.{arith}
 use Rattle.netlist.specs.File.{node_in}
-use Rattle.circuit.specs.Code.{code_of, coded, code_below}
+use Rattle.circuit.specs.Code.{code_of}
+use Rattle.circuit.proofs.CodeLaws.{coded, code_below}
 use Rattle.reader.proofs.InFile as file
 use borrow.Author.Rules.{rules}
 use Rattle.reader.proofs.parts.code_at.Statement.{statement}

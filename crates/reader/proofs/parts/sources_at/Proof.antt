@@ -2,7 +2,7 @@
 use mathlib.Core.Path.{◌∙◌}
 use native.Mathlib.Omega.{arith}
 use Rattle.netlist.specs.File.{node_in}
-use Rattle.netlist.specs.NodeLaws.{few_operands}
+use Rattle.netlist.proofs.NodeLaws.{few_operands}
 use Rattle.reader.proofs.InFile as file
 use borrow.Author.Rules.{rules}
 use Rattle.reader.proofs.parts.sources_at.Statement.{statement}

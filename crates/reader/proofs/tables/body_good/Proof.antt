@@ -1,7 +1,7 @@
 -- `body_good` follows the definition, tag by tag.
 use mathlib.Core.Path.{refl}
 use native.Mathlib.Omega.{arith}
-use Rattle.lists.specs.Paths.{on_eq, off_eq}
+use Rattle.lists.proofs.Paths.{on_eq, off_eq}
 use Rattle.netlist.specs.TableField.{body_good}
 use borrow.Author.Rules.{rules}
 use Rattle.reader.proofs.tables.body_good.Statement.{statement}

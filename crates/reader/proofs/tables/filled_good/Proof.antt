@@ -3,7 +3,7 @@ use mathlib.Core.Path.{refl, subst, ◌∙◌}
 use Prim.Native.Nat.{ℕ, ◌+◌, ◌*◌, ◌≤◌, ◌<◌}
 use native.Mathlib.Omega.{arith}
 use lib.ListN.{length}
-use Rattle.lists.specs.Paths.{on_lt, off_lt, on_eq, off_eq}
+use Rattle.lists.proofs.Paths.{on_lt, off_lt, on_eq, off_eq}
 use Rattle.netlist.specs.TableField.{filled_count, filled_good}
 use Rattle.reader.proofs.Largest.{behind_fit}
 use borrow.Author.Rules.{rules}

@@ -1,6 +1,6 @@
 -- `table_good` follows the definition, one law for each test.
 use mathlib.Core.Path.{refl}
-use Rattle.lists.specs.Paths.{on_lt, off_lt, on_eq, off_eq}
+use Rattle.lists.proofs.Paths.{on_lt, off_lt, on_eq, off_eq}
 use Rattle.netlist.specs.TableField.{table_good}
 use borrow.Author.Rules.{rules}
 use Rattle.reader.proofs.tables.table_good.Statement.{statement}

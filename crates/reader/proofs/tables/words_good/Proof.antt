@@ -3,7 +3,7 @@ use mathlib.Core.Path.{◌≡◌, refl, sym, ap, ◌∙◌}
 use Prim.Native.Nat.{ℕ, ◌+◌, ◌*◌, ◌^◌}
 use native.Mathlib.Omega.{arith}
 use lib.ListN.{length, get_or}
-use Rattle.lists.specs.Paths.{on_eq, off_eq}
+use Rattle.lists.proofs.Paths.{on_eq, off_eq}
 use Rattle.netlist.specs.TableField.{words_good}
 use Rattle.reader.proofs.Largest.{behind_fit}
 use borrow.Author.Rules.{rules}

@@ -3,7 +3,7 @@ use mathlib.Core.Path.{◌≡◌, sym, ◌∙◌}
 use Prim.Native.Nat.{◌-◌, ◌≤◌}
 use native.Mathlib.Omega.{arith}
 use borrow.Author.Rules.{rules}
-use Rattle.lists.specs.SearchLaws.{Passed, passed-more, lowest_here, lowest_past}
+use Rattle.lists.proofs.SearchLaws.{Passed, passed-more, lowest_here, lowest_past}
 use Rattle.netlist.specs.Net.{size}
 use Rattle.netlist.specs.Verdict.{unread}
 use Rattle.circuit.specs.Circuit.{net_of}

@@ -4,8 +4,8 @@ use mathlib.Core.Logic.{⊎_elim}
 use mathlib.Core.Bool.{Bool}
 use Prim.Native.Nat.{ℕ}
 use native.Mathlib.Omega.{arith}
-use Rattle.lists.specs.BelowLaws.{true_or_false, any_below_intro}
-use Rattle.lists.specs.SearchLaws.{any_passed}
+use Rattle.lists.proofs.BelowLaws.{true_or_false, any_below_intro}
+use Rattle.lists.proofs.SearchLaws.{any_passed}
 use Rattle.netlist.specs.Net.{source}
 use Rattle.netlist.specs.Verdict.{no_source}
 use Rattle.circuit.specs.Circuit.{net_of}

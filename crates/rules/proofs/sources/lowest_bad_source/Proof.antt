@@ -3,7 +3,7 @@ use mathlib.Core.Path.{◌≡◌, refl, sym, subst, ◌∙◌}
 use Prim.Native.Nat.{ℕ, ◌-◌, ◌≤◌}
 use native.Mathlib.Omega.{arith}
 use lib.ListN.{length}
-use Rattle.lists.specs.SearchLaws.{Passed, passed-more, lowest_here, lowest_past}
+use Rattle.lists.proofs.SearchLaws.{Passed, passed-more, lowest_here, lowest_past}
 use Rattle.netlist.specs.Net.{size}
 use Rattle.netlist.specs.Verdict.{bad_source}
 use Rattle.circuit.specs.Circuit.{net_of}

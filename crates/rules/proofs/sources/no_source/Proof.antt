@@ -7,7 +7,7 @@ use lib.Dec.{eqb}
 use borrow.Author.Tests.{lt-ltb, le-ltb}
 use Rattle.netlist.specs.Net.{size, element_at, is_output}
 use Rattle.circuit.specs.Circuit.{net_of}
-use Rattle.circuit.specs.Code.{code_output}
+use Rattle.circuit.proofs.CodeLaws.{code_output}
 use borrow.Author.Rules.{rules}
 use Rattle.rules.proofs.sources.no_source_lem.Statement.{statement}
 use Rattle.rules.proofs.sources.no_source_lem.Tie as tie

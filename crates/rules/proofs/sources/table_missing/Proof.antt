@@ -1,7 +1,7 @@
 -- Only a ROM has a table.
 use native.Mathlib.Omega.{arith}
 use Rattle.netlist.specs.Net.{element_at}
-use Rattle.circuit.specs.Code.{rom-table}
+use Rattle.circuit.proofs.CodeLaws.{rom-table}
 use Rattle.circuit.specs.Circuit.{net_of}
 use Rattle.rules.proofs.SourceLaws.{no_rom, rom_code, table_here, table-nowhere}
 use mathlib.Core.Path.{sym}

@@ -4,7 +4,7 @@ use Prim.Native.Nat.{◌-◌, ◌≤◌}
 use native.Mathlib.Omega.{arith}
 use lib.ListN.{length}
 use borrow.Author.Rules.{rules}
-use Rattle.lists.specs.SearchLaws.{Passed, passed-more, lowest_here, lowest_past}
+use Rattle.lists.proofs.SearchLaws.{Passed, passed-more, lowest_here, lowest_past}
 use Rattle.netlist.specs.Verdict.{unread_table}
 use Rattle.circuit.specs.Circuit.{net_of}
 use Rattle.rules.proofs.TableLaws.{table-marked, table_unmarked}

@@ -2,7 +2,7 @@
 use native.Mathlib.Omega.{arith}
 use Rattle.netlist.specs.Net.{element_at}
 use Rattle.circuit.specs.Circuit.{net_of}
-use Rattle.circuit.specs.CircuitLaws.{tables_of_lem}
+use Rattle.circuit.proofs.CircuitLaws.{tables_of_lem}
 use Rattle.rules.proofs.TableLaws.{rom_reads, rom_small, none_reads}
 use borrow.Author.Rules.{rules}
 use Rattle.rules.proofs.tables.table_read.Statement.{statement}

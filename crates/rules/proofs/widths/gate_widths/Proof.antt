@@ -5,7 +5,8 @@ use Prim.Native.Nat.{ℕ}
 use native.Mathlib.Omega.{arith}
 use lib.Dec.{eqb}
 use Rattle.netlist.specs.Net.{element_at, width_at, source}
-use Rattle.circuit.specs.Code.{Coded, coded}
+use Rattle.circuit.specs.Code.{Coded}
+use Rattle.circuit.proofs.CodeLaws.{coded}
 use Rattle.circuit.specs.Circuit.{net_of}
 use Rattle.rules.proofs.WidthLaws.{chosen, join_code, node_sided, node_joined}
 use borrow.Author.Rules.{rules}

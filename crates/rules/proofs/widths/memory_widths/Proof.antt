@@ -3,7 +3,7 @@ use Rattle.netlist.specs.Net.{element_at}
 use mathlib.Core.Path.{sym, ap, ◌∙◌}
 use Prim.Native.Nat.{ℕ}
 use lib.Dec.{eqb}
-use Rattle.circuit.specs.Code.{rom-table}
+use Rattle.circuit.proofs.CodeLaws.{rom-table}
 use Rattle.circuit.specs.Circuit.{net_of}
 use Rattle.rules.proofs.WidthLaws.{memory_on, memory_off}
 use borrow.Author.Rules.{rules}

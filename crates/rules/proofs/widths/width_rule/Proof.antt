@@ -3,7 +3,8 @@ use mathlib.Core.Path.{refl, sym, ap, subst, ◌∙◌}
 use Prim.Native.Nat.{ℕ}
 use native.Mathlib.Omega.{arith}
 use Rattle.netlist.specs.Net.{element_at, width_at, source}
-use Rattle.circuit.specs.Code.{Coded, coded}
+use Rattle.circuit.specs.Code.{Coded}
+use Rattle.circuit.proofs.CodeLaws.{coded}
 use Rattle.circuit.specs.Circuit.{net_of}
 use Rattle.netlist.specs.Verdict.{widths_right}
 use Rattle.rules.proofs.SourceLaws.{rom_code}

@@ -1,6 +1,6 @@
 -- Class by class: the first two have at most as many places as there are nodes, and so has the third.
 use native.Mathlib.Omega.{arith}
-use Rattle.lists.specs.BelowLaws.{count_below-le}
+use Rattle.lists.proofs.BelowLaws.{count_below-le}
 use Rattle.netlist.specs.Net.{size}
 use Rattle.circuit.specs.Circuit.{order_of, net_of}
 use Rattle.evaluate.specs.Rows.{row_test}

@@ -4,7 +4,7 @@ use mathlib.Core.Logic.{⊎_elim}
 use Prim.Native.Nat.{ℕ, ◌+◌, ◌-◌, ◌*◌, ◌≤◌, ◌<◌}
 use native.Mathlib.Omega.{arith}
 use lib.ListN.{length}
-use Rattle.lists.specs.BelowLaws.{lt_or_le}
+use Rattle.lists.proofs.BelowLaws.{lt_or_le}
 use Rattle.circuit.specs.Circuit.{net_of}
 use Rattle.retiming.specs.Modes.{mode_timing}
 use Rattle.plan.specs.Areas.{owners_in, words_in, late_in, sources_in}

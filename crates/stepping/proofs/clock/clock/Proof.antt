@@ -4,7 +4,7 @@ use mathlib.Core.List.{List, map}
 use Prim.Native.Nat.{ℕ, ◌+◌, ◌-◌, ◌≤◌}
 use native.Mathlib.Omega.{arith}
 use lib.ListN.{length, get_or, take, drop}
-use Rattle.lists.specs.Sections.{section-length}
+use Rattle.lists.proofs.Sections.{section-length}
 use Rattle.behaviour.specs.Service.{bytes_of}
 use Rattle.schedule.specs.Lines.{outputs_from}
 use borrow.Author.Rules.{rules}

@@ -5,7 +5,7 @@ use Prim.Native.Nat.{ℕ, ◌+◌, ◌<◌}
 use native.Mathlib.Omega.{arith}
 use lib.ListN.{get_or, set}
 use borrow.Author.Rules.{rules}
-use Rattle.lists.specs.Sections.{section-read}
+use Rattle.lists.proofs.Sections.{section-read}
 use Rattle.wiring.specs.Wiring.{ends_in}
 use Rattle.wiring.specs.Links.{linked_past, linked_put, ends_kept}
 use Rattle.wiring.proofs.links.link.Statement.{statement}

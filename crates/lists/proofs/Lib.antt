@@ -1,0 +1,13 @@
+pub mod Paths
+pub mod TableRule
+pub mod Parts
+pub mod BelowLaws
+pub mod SearchLaws
+pub mod ListsLaws
+pub mod DistinctLaws
+pub mod SelectLaws
+pub mod Mapped
+pub mod TotalLaws
+pub mod Threes
+pub mod Sections
+pub mod Linked
