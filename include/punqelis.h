@@ -4,7 +4,7 @@
  * A netlist file describes a clocked circuit of ports, registers, ROMs and gates. A ROM's table
  * is a field of tag 2, with a word for every address, or of tag 5: address bits, width, a fill
  * word and the first words; an address past the last word reads the fill word.
- * Link with libpunqelis.a, which `rt staticlib punqelis` writes to target/staticlib/.
+ * Link with libpunqelis.a, which harness/run copies to target/staticlib/ (`rt lib` in crates/punqelis_c writes it, as out/libpunqelis_c.a).
  *
  * Every function answers one number, the preview four more beside it:
  *   below 65,536   accepted, and the number is a length in bytes (see each function), but 0 for a
