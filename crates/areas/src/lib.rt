@@ -1,6 +1,7 @@
 // Reads and writes of work areas: total ones, where past the end there is 0 and nothing is written; and those of a place that is known to be there,
 // which test nothing. And a work area filled anew, or with the words of another.
 #![tactic(auto)]
+
 ghost use Rattle.std.specs.Prelude.{◌≡◌, ◌<◌, length, get_or, set, replicate};
 
 pub fn flag_at(flags: &[u8], i: usize) -> u8
