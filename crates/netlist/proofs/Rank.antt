@@ -1,5 +1,5 @@
 -- Laws of what specs/Rank.antt defines. Assumes nothing.
-use Rattle.std.specs.Prelude.{◌≡◌, ◌⊎◌, Bool, false}
+use Rattle.std.specs.Prelude.{◌≡◌, Bool, false}
 use Rattle.std.proofs.Math.Path.{refl, ap}
 use Rattle.std.proofs.Common.{sym, ◌∙◌, subst, ⊎_elim, not-suc-le-zero, le_of_suc-le-suc, add-zero}
 use Rattle.std.proofs.Math.Bool.{true}
@@ -37,11 +37,11 @@ unfolding prepend
 descent_step K N k v x h r d = record {
   at = prepend v d.at;
   start = refl;
-  each = λ i. elim i [
+  each = λ i. elim i as (λ j. j < suc k → ReadsIn K N (prepend v d.at j) (prepend v d.at (suc j))) [
     | zero ↦ λ l. record { operand = r.operand; inside = r.inside; used = r.used; from = r.from ∙ sym d.start }
     | suc j ↦ λ l. d.each j (le_of_suc-le-suc l)
   ];
-  inside = λ i. elim i [ zero ↦ λ l. h | suc j ↦ λ l. d.inside j (le_of_suc-le-suc l) ];
+  inside = λ i. elim i as (λ j. j ≤ suc k → prepend v d.at j < size N) [ zero ↦ λ l. h | suc j ↦ λ l. d.inside j (le_of_suc-le-suc l) ];
 }
 
 descent : (K : Class) (N : Net) → Sourced N → (k v : ℕ) → v < size N → unsettled K N k v ≡ true → Descent K N k v

@@ -1,5 +1,5 @@
 -- What is left of a netlist without its unread tables: every node, over its own table at the new number. Assumes nothing.
-use Rattle.std.specs.Prelude.{◌≡◌, refl, false, ℕ, ◌≤◌, ◌<◌, length}
+use Rattle.std.specs.Prelude.{◌≡◌, refl, ℕ, ◌≤◌, ◌<◌, length}
 use Rattle.std.proofs.Common.{sym, ◌∙◌}
 use Rattle.std.proofs.Math.Path.{ap, subst}
 use Rattle.std.proofs.Math.Bool.{true}
@@ -50,7 +50,7 @@ over_own (Clocked m r) = refl
 over_own (Gate o) = refl
 
 pub blind_memory : Blind is_memory
-blind_memory = record { same = λ k e. elim e [ Input ↦ refl | Output ↦ refl | Register r ↦ refl | Async m ↦ refl | Clocked m r ↦ refl | Gate o ↦ refl ] }
+blind_memory = record { same = λ k e. elim e as (λ v. is_memory (over_table k v) ≡ is_memory v) [ Input ↦ refl | Output ↦ refl | Register r ↦ refl | Async m ↦ refl | Clocked m r ↦ refl | Gate o ↦ refl ] }
 
 module _ (N : Net) where
   -- ---- the nodes

@@ -13,25 +13,25 @@ use Rattle.netlist.specs.Trim.{table_number, over_table, trimmed}
 use Rattle.netlist.proofs.Trimmed.{Blind, size-trimmed, inside_trimmed, element_trimmed, width_trimmed, source-trimmed, blind_trimmed, tables-trimmed, table_kept, number_kept}
 
 pub blind_input : Blind is_input
-blind_input = record { same = λ k e. elim e [ Input ↦ refl | Output ↦ refl | Register r ↦ refl | Async m ↦ refl | Clocked m r ↦ refl | Gate o ↦ refl ] }
+blind_input = record { same = λ k e. elim e as (λ v. is_input (over_table k v) ≡ is_input v) [ Input ↦ refl | Output ↦ refl | Register r ↦ refl | Async m ↦ refl | Clocked m r ↦ refl | Gate o ↦ refl ] }
 
 pub blind_output : Blind is_output
-blind_output = record { same = λ k e. elim e [ Input ↦ refl | Output ↦ refl | Register r ↦ refl | Async m ↦ refl | Clocked m r ↦ refl | Gate o ↦ refl ] }
+blind_output = record { same = λ k e. elim e as (λ v. is_output (over_table k v) ≡ is_output v) [ Input ↦ refl | Output ↦ refl | Register r ↦ refl | Async m ↦ refl | Clocked m r ↦ refl | Gate o ↦ refl ] }
 
 pub blind_async : Blind is_async
-blind_async = record { same = λ k e. elim e [ Input ↦ refl | Output ↦ refl | Register r ↦ refl | Async m ↦ refl | Clocked m r ↦ refl | Gate o ↦ refl ] }
+blind_async = record { same = λ k e. elim e as (λ v. is_async (over_table k v) ≡ is_async v) [ Input ↦ refl | Output ↦ refl | Register r ↦ refl | Async m ↦ refl | Clocked m r ↦ refl | Gate o ↦ refl ] }
 
 pub blind_holds : Blind holds_word
-blind_holds = record { same = λ k e. elim e [ Input ↦ refl | Output ↦ refl | Register r ↦ refl | Async m ↦ refl | Clocked m r ↦ refl | Gate o ↦ refl ] }
+blind_holds = record { same = λ k e. elim e as (λ v. holds_word (over_table k v) ≡ holds_word v) [ Input ↦ refl | Output ↦ refl | Register r ↦ refl | Async m ↦ refl | Clocked m r ↦ refl | Gate o ↦ refl ] }
 
 pub blind_operands : Blind operands
-blind_operands = record { same = λ k e. elim e [ Input ↦ refl | Output ↦ refl | Register r ↦ refl | Async m ↦ refl | Clocked m r ↦ refl | Gate o ↦ refl ] }
+blind_operands = record { same = λ k e. elim e as (λ v. operands (over_table k v) ≡ operands v) [ Input ↦ refl | Output ↦ refl | Register r ↦ refl | Async m ↦ refl | Clocked m r ↦ refl | Gate o ↦ refl ] }
 
 blind_clock : Blind in_clock.of
-blind_clock = record { same = λ k e. elim e [ Input ↦ refl | Output ↦ refl | Register r ↦ refl | Async m ↦ refl | Clocked m r ↦ refl | Gate o ↦ refl ] }
+blind_clock = record { same = λ k e. elim e as (λ v. in_clock.of (over_table k v) ≡ in_clock.of v) [ Input ↦ refl | Output ↦ refl | Register r ↦ refl | Async m ↦ refl | Clocked m r ↦ refl | Gate o ↦ refl ] }
 
 blind_registers : Blind in_registers.of
-blind_registers = record { same = λ k e. elim e [ Input ↦ refl | Output ↦ refl | Register r ↦ refl | Async m ↦ refl | Clocked m r ↦ refl | Gate o ↦ refl ] }
+blind_registers = record { same = λ k e. elim e as (λ v. in_registers.of (over_table k v) ≡ in_registers.of v) [ Input ↦ refl | Output ↦ refl | Register r ↦ refl | Async m ↦ refl | Clocked m r ↦ refl | Gate o ↦ refl ] }
 
 -- ---- an element over another table
 

@@ -1,5 +1,5 @@
 -- The fields of a netlist's file, and the offset of each: document 02, T-04. Assumes nothing.
-use Rattle.std.specs.Prelude.{ℕ, ◌+◌, take}
+use Rattle.std.specs.Prelude.{ℕ, take}
 use mathlib.Core.List.{List, [], ◌∷◌, ◌++◌, map}
 use Rattle.std.proofs.Math.ListN.{length, get_or}
 use Rattle.lists.specs.Lists.{total}
