@@ -1,5 +1,5 @@
 -- A file of bytes that is read is the file of its netlist: no netlist has two files. Assumes nothing.
-use Rattle.std.specs.Prelude.{◌≡◌, refl, ℕ, ◌+◌, ◌≤◌, length, get_or, drop}
+use Rattle.std.specs.Prelude.{◌≡◌, refl, ℕ, ◌≤◌, length, get_or, drop}
 use Rattle.std.proofs.Math.Path.{ap, sym}
 use Rattle.std.proofs.Common.{subst, ◌∙◌, arith, drop-cons}
 use mathlib.Core.List.{List, [], ◌∷◌, ◌++◌, map, append_assoc}
