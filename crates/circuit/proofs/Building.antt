@@ -1,5 +1,5 @@
 -- Laws of what specs/Building.antt defines. Assumes nothing.
-use Rattle.std.specs.Prelude.{◌≡◌, ℕ, zero, suc, ◌+◌, ◌-◌, ◌*◌, ◌≤◌, ◌<◌, set, take, drop}
+use Rattle.std.specs.Prelude.{◌≡◌, ℕ, zero, suc, ◌+◌, ◌*◌, ◌≤◌, ◌<◌, set, take, drop}
 use Rattle.std.proofs.Math.Path.{refl, ap, ap₂, subst}
 use Rattle.std.proofs.Common.{sym, ◌∙◌, zero-le, zero-add, arith, length-take-le, take-suc, take_all, ext_get_or, below_more}
 use mathlib.Core.List.{List, [], ◌∷◌, ◌++◌, append_assoc, map}

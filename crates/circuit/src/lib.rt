@@ -1,5 +1,6 @@
 // The opened netlist in one slice of words: what it tells of a node and of a table, and how a node is put. Every pass goes by it.
 #![tactic(auto)]
+
 pub mod renumber;
 mod tables;
 
