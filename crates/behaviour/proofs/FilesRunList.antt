@@ -11,7 +11,7 @@ use Rattle.netlist.specs.declared.Verdict.TheVariants.{Fine, Refuses}
 use Rattle.behaviour.specs.Run.{reset_state}
 use Rattle.behaviour.specs.Runs.{input_widths, output_widths, state_widths}
 use Rattle.behaviour.specs.Alike.{Alike}
-use Rattle.behaviour.specs.Service.{bytes_of, fitting_bytes, Ran, Entry, Shown, runs_file}
+use Rattle.behaviour.specs.Service.{bytes_of, fitting_bytes, Entry, Shown, runs_file}
 use Rattle.behaviour.specs.Entries.{state_fits, state_after}
 use Rattle.behaviour.proofs.EntriesLaws.{after-append, runs_append}
 use Rattle.behaviour.proofs.Only15.{reset_fitted, reset_accepted, states_fit}
