@@ -37,17 +37,17 @@ record Kept (X : Element → Bool) : Type 0 where
 
 inputs_kept : Kept is_input
 inputs_kept = record {
-  new = λ e n c. elim e [ Input ↦ refl | Output ↦ refl | Register r ↦ refl | Async m ↦ refl | Clocked m r ↦ refl | Gate o ↦ refl ];
-  no_register = λ e. elim e [ Input ↦ λ h. absurd (false≢true h) | Output ↦ λ h. refl | Register r ↦ λ h. refl | Async m ↦ λ h. refl | Clocked m r ↦ λ h. refl | Gate o ↦ λ h. refl ];
-  no_rom = λ e. elim e [ Input ↦ λ h. absurd (false≢true h) | Output ↦ λ h. refl | Register r ↦ λ h. refl | Async m ↦ λ h. refl | Clocked m r ↦ λ h. refl | Gate o ↦ λ h. refl ];
+  new = λ e n c. elim e as (λ v. is_input (new_element v n c) ≡ is_input v) [ Input ↦ refl | Output ↦ refl | Register r ↦ refl | Async m ↦ refl | Clocked m r ↦ refl | Gate o ↦ refl ];
+  no_register = λ e. elim e as (λ v. is_register v ≡ true → is_input v ≡ false) [ Input ↦ λ h. absurd (false≢true h) | Output ↦ λ h. refl | Register r ↦ λ h. refl | Async m ↦ λ h. refl | Clocked m r ↦ λ h. refl | Gate o ↦ λ h. refl ];
+  no_rom = λ e. elim e as (λ v. is_memory v ≡ true → is_input v ≡ false) [ Input ↦ λ h. absurd (false≢true h) | Output ↦ λ h. refl | Register r ↦ λ h. refl | Async m ↦ λ h. refl | Clocked m r ↦ λ h. refl | Gate o ↦ λ h. refl ];
   no_gate = λ o. refl;
 }
 
 outputs_kept : Kept is_output
 outputs_kept = record {
-  new = λ e n c. elim e [ Input ↦ refl | Output ↦ refl | Register r ↦ refl | Async m ↦ refl | Clocked m r ↦ refl | Gate o ↦ refl ];
-  no_register = λ e. elim e [ Input ↦ λ h. refl | Output ↦ λ h. absurd (false≢true h) | Register r ↦ λ h. refl | Async m ↦ λ h. refl | Clocked m r ↦ λ h. refl | Gate o ↦ λ h. refl ];
-  no_rom = λ e. elim e [ Input ↦ λ h. refl | Output ↦ λ h. absurd (false≢true h) | Register r ↦ λ h. refl | Async m ↦ λ h. refl | Clocked m r ↦ λ h. refl | Gate o ↦ λ h. refl ];
+  new = λ e n c. elim e as (λ v. is_output (new_element v n c) ≡ is_output v) [ Input ↦ refl | Output ↦ refl | Register r ↦ refl | Async m ↦ refl | Clocked m r ↦ refl | Gate o ↦ refl ];
+  no_register = λ e. elim e as (λ v. is_register v ≡ true → is_output v ≡ false) [ Input ↦ λ h. refl | Output ↦ λ h. absurd (false≢true h) | Register r ↦ λ h. refl | Async m ↦ λ h. refl | Clocked m r ↦ λ h. refl | Gate o ↦ λ h. refl ];
+  no_rom = λ e. elim e as (λ v. is_memory v ≡ true → is_output v ≡ false) [ Input ↦ λ h. refl | Output ↦ λ h. absurd (false≢true h) | Register r ↦ λ h. refl | Async m ↦ λ h. refl | Clocked m r ↦ λ h. refl | Gate o ↦ λ h. refl ];
   no_gate = λ o. refl;
 }
 

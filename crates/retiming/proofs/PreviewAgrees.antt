@@ -1,5 +1,5 @@
 -- Laws of what specs/PreviewAgrees.antt defines. Assumes nothing.
-use Rattle.std.specs.Prelude.{◌≡◌, refl, ◌⊎◌, List, ℕ, length}
+use Rattle.std.specs.Prelude.{◌≡◌, refl, List, ℕ, length}
 use Rattle.std.proofs.Common.{sym, ap, subst, ◌∙◌, inl, inr, ⊎_elim, arith}
 use Rattle.netlist.specs.File.{Decoded, decode, decoded_net}
 use Rattle.codec.specs.Bytes.{Bytes}

@@ -1,5 +1,5 @@
 -- Laws of what specs/RegistersLast.antt defines. Assumes nothing.
-use Rattle.std.specs.Prelude.{◌≡◌, ◌⊎◌, not, map, length}
+use Rattle.std.specs.Prelude.{◌≡◌, not, map, length}
 use Rattle.std.proofs.Math.Path.{refl, ap}
 use Rattle.std.proofs.Common.{sym, subst, ◌∙◌}
 use Rattle.std.proofs.Math.Logic.{inl, inr, ⊎_elim}

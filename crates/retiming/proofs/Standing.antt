@@ -16,7 +16,7 @@ use Rattle.retiming.proofs.Wires.{wire_next, wire_none}
 use Rattle.retiming.specs.Layout.{Stands}
 use Rattle.retiming.proofs.LayoutLaws.{stays_if, copy_on_lem}
 use Rattle.retiming.specs.Candidate.{Retimes}
-use Rattle.retiming.proofs.New.{from, passed_at_most}
+use Rattle.retiming.proofs.New.{passed_at_most}
 
 -- ---- which wire wants a copy of a ROM
 
