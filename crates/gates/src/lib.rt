@@ -1,5 +1,6 @@
 // The word of a gate, computed. 2 ^ w is the shift 1 << w, and a remainder by it is a mask in machine code.
 #![tactic(auto)]
+
 ghost use Rattle.std.specs.Prelude.{◌≡◌, ◌+◌, ◌-◌, ◌*◌, ◌/◌, ◌%◌, ◌^◌, ◌≤◌, ◌<◌};
 ghost use Rattle.gates.specs.Gate.{gate_word};
 
@@ -73,6 +74,7 @@ fn join(v: u8, a: u16, b: u16) -> u16
 
 // The word of a gate of width w on the words a, b and c; v is the width of its second source.
 // That the word fits 16 bits is asked for Join's sake: with checks 5 and 7 passed, every gate's word fits its width.
+#[tactic(auto, unfolding(words::specs::Gates::operate))]
 pub fn gate(op: Op, w: u8, v: u8, a: u16, b: u16, c: u16) -> u16
     requires { (w ≤ 16) × (v ≤ 16) × (gate_word op w v a b c < 65536) }
     ensures { result ≡ gate_word op w v a b c }
