@@ -1,5 +1,6 @@
 // Reads the content of a node field.
 #![tactic(auto)]
+
 pub mod good;
 
 ghost use Rattle.std.specs.Prelude.{◌≡◌, ◌+◌, ◌*◌, ◌<◌, ◌≤◌, length, ltb};
