@@ -1,5 +1,6 @@
 // Reads the fields of a file one by one, in their order: the head, tables, nodes, the end. Checks 2 to 5.
 #![tactic(auto)]
+
 pub mod parts;
 mod tables;
 

@@ -7,32 +7,24 @@ use Rattle.netlist.specs.Field.{content, length_at}
 use Rattle.netlist.specs.File.{node_in}
 use Rattle.netlist.proofs.NodeLaws.{node_facts, node_width}
 use Rattle.netlist.proofs.FieldLaws.{content-length}
-use borrow.Author.Rules.{rules}
 use lib.Seq.{get_or-drop, get_or-take}
-use Rattle.reader.proofs.width_at.Statement.{statement}
-use Rattle.reader.proofs.width_at.Tie as tie
+use Rattle.reader.proofs.width_at.Goals as goal
 
-add-after-kind : tie.Need-overflow-add-after-kind
-add-after-kind c = search rules
-
-shared-slice-read-result : tie.Need-shared-slice-read-result
-shared-slice-read-result c =
-    let s = c.before.args.file.now in
-    let at = c.before.args.at in
-    let p = c.before.requires in
+pub bounds-file-after_kind : goal.bounds-file-after_kind
+bounds-file-after_kind c =
+    let s = c.args.file.now in
+    let at = c.args.at in
+    let p = c.requires in
     let l = content-length s at p.inside in
     let f = (node_facts (content s at) p.good).long in
     omega arith
 
-returns : tie.Need-returns
+pub returns : goal.returns
 unfolding node_in
 returns c =
-    let s = c.before.args.file.now in
-    let at = c.before.args.at in
-    let p = c.before.requires in
+    let s = c.args.file.now in
+    let at = c.args.at in
+    let p = c.requires in
     let l = content-length s at p.inside in
     let f = (node_facts (content s at) p.good).long in
     sym (node_width (content s at) p.good ∙ get_or-take (length_at s at) (drop (at + 3) s) 1 0 (omega arith) ∙ get_or-drop (at + 3) s 1 0 ∙ ap (λ (k : ℕ). get_or s k 0) (let e : at + 3 + 1 ≡ at + 4 = omega arith in e))
-
-pub width-at-spec : {M : Type 1} → statement M
-width-at-spec = tie.close (tie.spec add-after-kind shared-slice-read-result returns)
