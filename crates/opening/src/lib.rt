@@ -1,5 +1,6 @@
 // Opens a file: reads its fields one by one, and puts them into a circuit.
 #![tactic(auto)]
+
 mod fields;
 pub mod rows;
 
