@@ -1,5 +1,5 @@
 -- A pass over numbered things that flags those that pass a test, and counts them: what a try at one leaves, and what a pass leaves. Assumes nothing.
-use Rattle.std.specs.Prelude.{◌≡◌, refl, Bool, true, false, List, ℕ, suc, ◌+◌, ◌≤◌, ◌<◌, get_or, ltb}
+use Rattle.std.specs.Prelude.{◌≡◌, refl, Bool, false, List, ℕ, suc, ◌+◌, ◌≤◌, ◌<◌, get_or, ltb}
 use Rattle.std.proofs.Common.{sym, subst, ◌∙◌, ⊎_elim, true≢false, not-suc-le-zero, le_refl, arith, lt-ltb}
 use Rattle.lists.proofs.BelowLaws.{lt-suc_split}
 

@@ -1,6 +1,7 @@
 // Puts the nodes of a circuit into an order in which each comes after what it reads within the clock.
 // A node is placed where all that it reads is placed; else it waits for a source that is missing.
 #![tactic(auto)]
+
 pub mod hinted;
 
 ghost use Rattle.std.specs.Prelude.{◌≡◌, true, false, ℕ, ◌<◌, ◌≤◌, length, get_or};
@@ -14,7 +15,7 @@ use areas::{number_at, read_at, write_at};
 use circuit::{clocked_rom, node_count, put_order, register, source_count, source_of, wide};
 
 // The steps that count: those within the clock (check 9), or those into registers (check 10).
-#[derive(Drop)]
+#[derive(Clone, Copy)]
 pub enum Steps {
     InClock,
     InRegisters,
