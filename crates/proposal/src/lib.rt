@@ -1,5 +1,6 @@
 // A depth-first walk that proposes an order: down to what a node reads, back with the node noted. Nobody trusts it, so nothing is said of what it leaves.
 #![tactic(auto)]
+
 ghost use Rattle.std.specs.Prelude.{◌≡◌, ◌+◌, ◌≤◌, length};
 ghost use Rattle.circuit.specs.Circuit.{Circuit};
 
