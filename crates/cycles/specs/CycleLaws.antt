@@ -1,5 +1,5 @@
 -- All nodes stand in order just where none reaches itself; and where they have ranks none does. Assumes nothing.
-use Rattle.std.specs.Prelude.{◌≡◌, true, false, List, ℕ, ◌<◌}
+use Rattle.std.specs.Prelude.{◌≡◌, List, ℕ, ◌<◌}
 use Rattle.std.proofs.Common.{sym, ◌∙◌, ⊎_elim, zero-le, arith}
 use Rattle.std.proofs.lemmas.Bool.{false≢true}
 use Rattle.lists.specs.Lists.{lowest}

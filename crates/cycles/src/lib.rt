@@ -1,5 +1,6 @@
 // Checks 9 and 10: the lowest node that reaches itself, searched for only where the nodes cannot all be put in order.
 #![tactic(auto)]
+
 pub mod rings;
 
 ghost use Rattle.std.specs.Prelude.{◌≡◌, ◌<◌, ◌≤◌, length};
