@@ -1,11 +1,11 @@
 // The reader's layer as run and rewriter see it: checks 1 to 10 and 17, a node by its number, a table's stored words.
 #![tactic(auto)]
+
 ghost use Rattle.std.specs.Prelude.{◌≡◌, ◌≤◌, length};
-ghost use Rattle.netlist.specs.Net.{in_clock, Net, Sourced};
+ghost use Rattle.netlist.specs.Net.{in_clock, Sourced};
 ghost use Rattle.netlist.specs.Verdict.{verdict, reader_verdict};
 ghost use Rattle.netlist.specs.File.{answer, check_answer};
 ghost use Rattle.circuit.specs.Circuit.{circuit_words, order_of, net_of, Circuit};
-ghost use Rattle.circuit.specs.Opened.{opened};
 ghost use Rattle.circuit.specs.Order.{Complete};
 ghost use Rattle.checks.specs.Open.{from_nine, Opened};
 ghost use Rattle.checks.specs.Services.{node_of_file, words_of_file};
@@ -38,7 +38,7 @@ pub struct TableAnswer<'a> {
 }
 
 // The offset of a table's field, or a refusal.
-#[derive(Drop)]
+#[derive(Clone, Copy)]
 enum TablePlace {
     At(usize),
     Refuse(u8, u16),
@@ -182,7 +182,7 @@ fn answer_with(place: TablePlace, words: &[u8]) -> Answer
     }
 }
 
-// The stored words of table k. (A function over a struct that holds a reference is proved by hand: the work is done in the three above.)
+// The stored words of table k: the work is done in the three above.
 pub fn table_words<'a>(file: &'a [u8], k: usize) -> TableAnswer<'a>
     ensures { (result.answer ≡ (words_of_file file.now k).answer)
         × (result.words.now ≡ (words_of_file file.now k).words) }
