@@ -1,9 +1,8 @@
 // The rows of words that a host lends, over the circuit.
 ghost use Rattle.std.specs.Prelude.{◌≡◌, true, map, ℕ, ◌*◌, ◌<◌, ◌≤◌, length, take, get_or};
 ghost use Rattle.lists.specs.Lists.{one};
-ghost use Rattle.netlist.specs.Net.{Net, size};
+ghost use Rattle.netlist.specs.Net.{size};
 ghost use Rattle.netlist.specs.Checks.{WellFormed};
-ghost use Rattle.circuit.specs.Opened.{opened};
 ghost use Rattle.behaviour.specs.Service.{bytes_of, fitting_bytes};
 ghost use Rattle.evaluate.specs.Rows.{row_test, row_members, row_widths, Loaded};
 ghost use Rattle.circuit.specs.Circuit.{net_of, Circuit};

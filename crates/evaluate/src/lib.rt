@@ -1,14 +1,14 @@
 // The words of all nodes in one clock: the lent rows of words are loaded, then each node is evaluated after what it reads.
 #![tactic(auto)]
+
 pub mod lent;
 
 ghost use Rattle.std.specs.Prelude.{◌≡◌, true, false, ◌^◌, ◌<◌, ◌≤◌, length, get_or};
 ghost use Rattle.netlist.specs.declared.Element.{Element};
-ghost use Rattle.netlist.specs.Net.{Net, size, element_at, width_at, source, is_memory, contents_at, in_clock};
+ghost use Rattle.netlist.specs.Net.{size, element_at, width_at, source, is_memory, contents_at, in_clock};
 ghost use Rattle.netlist.specs.Checks.{WellFormed};
 ghost use Rattle.circuit.specs.Code.{code_of};
 ghost use Rattle.circuit.specs.Circuit.{order_of, net_of, Circuit};
-ghost use Rattle.circuit.specs.Opened.{opened};
 ghost use Rattle.circuit.specs.Order.{Complete};
 ghost use Rattle.evaluate.specs.Rows.{in_row, row_test, RowFits};
 ghost use Rattle.evaluate.specs.Clock.{loaded, node_word, Inside, OperandsFit, Evaluated};
@@ -23,7 +23,7 @@ use nodes::plain_op;
 use words::Op;
 
 // The rows of words that a host lends: one word for each node of a class, by node number.
-#[derive(Drop)]
+#[derive(Clone, Copy)]
 pub enum Row {
     Inputs,
     Outputs,
