@@ -1,13 +1,13 @@
 // The schedule of a circuit: the work of a clock laid out in lines, so that whoever steps it reads line by line.
 #![tactic(auto)]
+
 mod lines;
 mod listing;
 
 ghost use Rattle.std.specs.Prelude.{◌≡◌, ◌+◌, ◌*◌, ◌<◌, ◌≤◌, length};
-ghost use Rattle.netlist.specs.Net.{Net, in_clock};
+ghost use Rattle.netlist.specs.Net.{in_clock};
 ghost use Rattle.netlist.specs.Checks.{WellFormed};
 ghost use Rattle.circuit.specs.Circuit.{order_of, net_of, Circuit};
-ghost use Rattle.circuit.specs.Opened.{opened};
 ghost use Rattle.circuit.specs.Order.{Complete};
 ghost use Rattle.evaluate.specs.Clock.{Inside};
 ghost use Rattle.schedule.specs.Lines.{schedule_words, part, Scheduled};
@@ -35,7 +35,7 @@ pub const HELD: usize = 6;
 pub const NODE: usize = 7;
 
 // How many lines input ports have, what holds a word, and all together; and how many output ports there are, which have none.
-#[derive(Drop)]
+#[derive(Clone, Copy)]
 pub struct Sizes {
     pub inputs: usize,
     pub held: usize,

@@ -1,8 +1,7 @@
 // The lines, each with all that its operation asks for, and where the output ports read.
 ghost use Rattle.std.specs.Prelude.{◌≡◌, ℕ, ◌+◌, ◌<◌, ◌≤◌, length, get_or};
-ghost use Rattle.netlist.specs.Net.{Net, size, element_at, width_at, source};
+ghost use Rattle.netlist.specs.Net.{size, element_at, width_at, source};
 ghost use Rattle.circuit.specs.Code.{code_of};
-ghost use Rattle.circuit.specs.Opened.{opened};
 ghost use Rattle.evaluate.specs.Clock.{Inside};
 ghost use Rattle.schedule.specs.Lines.{schedule_words, asked_by, Holds};
 ghost use Rattle.schedule.specs.Laid.{Laid, RunsOn, LinePut, LaidFrom};

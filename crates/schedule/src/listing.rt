@@ -2,10 +2,9 @@
 ghost use Rattle.std.specs.Prelude.{◌≡◌, ℕ, ◌+◌, ◌<◌, ◌≤◌, length, get_or};
 ghost use Rattle.lists.specs.Lists.{one};
 ghost use Rattle.netlist.specs.declared.Element.{Element};
-ghost use Rattle.netlist.specs.Net.{Net, size, in_clock};
+ghost use Rattle.netlist.specs.Net.{size, in_clock};
 ghost use Rattle.circuit.specs.Code.{code_of};
 ghost use Rattle.circuit.specs.Circuit.{order_of, net_of, Circuit};
-ghost use Rattle.circuit.specs.Opened.{opened};
 ghost use Rattle.circuit.specs.Order.{Complete};
 ghost use Rattle.evaluate.specs.Rows.{row_test};
 ghost use Rattle.schedule.specs.Lines.{is_inner};
