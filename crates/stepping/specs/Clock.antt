@@ -9,17 +9,15 @@ use mathlib.Core.List.{List, map}
 use native.Mathlib.Omega.{arith}
 use Rattle.std.proofs.Math.ListN.{length, get_or, length-map}
 use Rattle.std.proofs.Math.Seq.{ext_get_or}
-use Rattle.lists.specs.Lists.{count_below}
 use Rattle.lists.proofs.BelowLaws.{lt_or_le, get_or_listed, get_or_map-lt}
 use Rattle.lists.proofs.ListsLaws.{length-select}
-use Rattle.lists.specs.SelectLaws.{Member}
 use Rattle.lists.proofs.SelectLaws.{some_member, select_at}
 use Rattle.lists.specs.Sections.{section}
 use Rattle.lists.proofs.Sections.{section-length, section-read}
 use Rattle.words.specs.Words.{word}
 use Rattle.netlist.specs.declared.Element.{Element}
 use Rattle.netlist.specs.declared.Element.TheVariants.{Input, Output, Register, Async, Clocked, Gate}
-use Rattle.netlist.specs.Net.{Net, size, element_at, width_at, source, operands, within_clock, within_few, contents_at, is_input, is_output, holds_word, port_of, outputs_of}
+use Rattle.netlist.specs.Net.{Net, size, element_at, width_at, source, within_few, contents_at, is_input, is_output, holds_word, port_of, outputs_of}
 use Rattle.netlist.specs.Checks.{WellFormed}
 use Rattle.behaviour.specs.Run.{gives_now, holds_next, holder_of, contents_now, again, words, next_state, run_outputs, run_state}
 use Rattle.behaviour.proofs.Run.{contents_now_lem}
@@ -28,11 +26,11 @@ use Rattle.behaviour.specs.Service.{words_in}
 use Rattle.behaviour.proofs.Settled.{settled}
 use Rattle.behaviour.proofs.ClockFits.{PortsFit, ports_fit, HoldersFit, holders_fit}
 use Rattle.evaluate.specs.Rows.{row_test}
-use Rattle.evaluate.specs.declared.Row.TheVariants.{Inputs, Outputs, State}
+use Rattle.evaluate.specs.declared.Row.TheVariants.{Outputs, State}
 use Rattle.evaluate.specs.Next.{holder_reads, next_same}
 use Rattle.evaluate.specs.Settling.{now_same}
 use Rattle.schedule.specs.declared.Sizes.{Sizes}
-use Rattle.schedule.specs.Lines.{outputs_from, place_on, node_on, is_inner, Scheduled}
+use Rattle.schedule.specs.Lines.{outputs_from, place_on, node_on, Scheduled}
 use Rattle.stepping.specs.Step.{line_word, line_next, FitTo, Stepped}
 use Rattle.stepping.specs.StepLaws.{inner_new}
 use Rattle.stepping.specs.Putting.{Put, put-section}

@@ -19,7 +19,6 @@ use Rattle.netlist.specs.Net.{no_table, spelled, Net, element_at, width_at, sour
 use Rattle.netlist.specs.Checks.{ElementWidths, WellFormed}
 use Rattle.circuit.specs.Code.{code_of, op_by, element_by, number_or, table_or}
 use Rattle.circuit.proofs.CodeLaws.{coded, code_below}
-use Rattle.behaviour.specs.Run.{gives_now}
 use Rattle.behaviour.proofs.Fits.{contents_fit}
 use Rattle.behaviour.proofs.ClockFits.{now_fits}
 use Rattle.evaluate.specs.Clock.{loaded}

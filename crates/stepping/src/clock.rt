@@ -1,9 +1,7 @@
 // One clock: a row of inputs is put at its places, the lines are done, a row of outputs is written, and the next state comes to the state's places.
 ghost use Rattle.std.specs.Prelude.{◌≡◌, true, ℕ, ◌+◌, ◌*◌, ◌/◌, ◌<◌, ◌≤◌, length, get_or};
 ghost use Rattle.words.specs.Words.{word};
-ghost use Rattle.netlist.specs.Net.{Net};
 ghost use Rattle.netlist.specs.Checks.{WellFormed};
-ghost use Rattle.circuit.specs.Opened.{opened};
 ghost use Rattle.behaviour.specs.Run.{run_outputs, run_state};
 ghost use Rattle.behaviour.specs.Runs.{input_widths, state_widths, fitting};
 ghost use Rattle.behaviour.specs.Service.{bytes_of, words_in};

@@ -1,12 +1,11 @@
 // One clock over a schedule: its lines one after the other, on a row of words that has a place for each.
 #![tactic(auto)]
+
 pub mod clock;
 mod operations;
 
 ghost use Rattle.std.specs.Prelude.{◌≡◌, ℕ, ◌+◌, ◌<◌, ◌≤◌, length, get_or};
-ghost use Rattle.netlist.specs.Net.{Net};
 ghost use Rattle.netlist.specs.Checks.{WellFormed};
-ghost use Rattle.circuit.specs.Opened.{opened};
 ghost use Rattle.schedule.specs.Lines.{schedule_words, code_on, place_on, Scheduled};
 ghost use Rattle.stepping.specs.Step.{line_word, FitTo, Stepped, gate_on, GateAsks, chosen_on, OnLine, OnRun};
 ghost use Rattle.circuit.specs.Circuit.{net_of, Circuit};

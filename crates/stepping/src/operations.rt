@@ -1,8 +1,6 @@
 // A run by its code. Each operation has a function of its own, with the code as a number in it, so that the compiler makes a loop of each that does nothing else.
-ghost use Rattle.std.specs.Prelude.{◌≡◌, ◌<◌};
-ghost use Rattle.netlist.specs.Net.{Net};
+ghost use Rattle.std.specs.Prelude.{◌<◌};
 ghost use Rattle.netlist.specs.Checks.{WellFormed};
-ghost use Rattle.circuit.specs.Opened.{opened};
 ghost use Rattle.schedule.specs.Lines.{code_on};
 ghost use Rattle.stepping.specs.Step.{Stepped, OnRun};
 ghost use Rattle.circuit.specs.Circuit.{net_of, Circuit};
