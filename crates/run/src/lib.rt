@@ -1,5 +1,6 @@
 // The reset service and the run of one clock, on the bytes that a host lends. Nothing is written before every check is passed.
 #![tactic(auto)]
+
 ghost use Rattle.std.specs.Prelude.{◌≡◌, true, ◌*◌, ◌<◌, length};
 ghost use Rattle.netlist.specs.Net.{Net, size, element_at, in_clock};
 ghost use Rattle.netlist.specs.Checks.{WellFormed};
