@@ -1,11 +1,11 @@
 // A list of runs in one call: the file is opened once, every check is passed before anything is written, and then clock follows clock.
 #![tactic(auto)]
+
 ghost use Rattle.std.specs.Prelude.{◌≡◌, true, ◌+◌, ◌*◌, ◌≤◌, length, eqb};
 ghost use Rattle.lists.specs.Lists.{below, concat_map};
-ghost use Rattle.netlist.specs.Net.{Net, size};
+ghost use Rattle.netlist.specs.Net.{size};
 ghost use Rattle.netlist.specs.Checks.{WellFormed};
 ghost use Rattle.circuit.specs.Circuit.{order_of, net_of, Circuit};
-ghost use Rattle.circuit.specs.Opened.{opened};
 ghost use Rattle.behaviour.specs.Runs.{input_widths, output_widths, state_widths, fitting};
 ghost use Rattle.behaviour.specs.Service.{bytes_of, words_in};
 ghost use Rattle.behaviour.specs.RunList.{room_for_rows, fitting_rows, list_verdict, run_list_file};
