@@ -1,8 +1,8 @@
 // The wires of an opened netlist: for every node the root where its wire begins, and the registers passed on the way back to it.
 #![tactic(auto)]
+
 ghost use Rattle.std.specs.Prelude.{◌≡◌, ◌<◌, length, take};
-ghost use Rattle.netlist.specs.Net.{Net, size, Sourced};
-ghost use Rattle.circuit.specs.Opened.{opened};
+ghost use Rattle.netlist.specs.Net.{size, Sourced};
 ghost use Rattle.retiming.specs.Rewrite.{root, passed};
 ghost use Rattle.wires.specs.Traced.{roots_in, passes_in, Ringless, HalfTraced, MoreTraced, AllTraced};
 ghost use Rattle.wires.specs.TracedLaws.{Written};
