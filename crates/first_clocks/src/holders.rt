@@ -2,7 +2,6 @@
 ghost use Rattle.std.specs.Prelude.{◌≡◌, ◌≤◌, ◌<◌, length};
 ghost use Rattle.netlist.specs.Net.{Net, size};
 ghost use Rattle.netlist.specs.Checks.{WellFormed};
-ghost use Rattle.circuit.specs.Opened.{opened};
 ghost use Rattle.retiming.specs.Rewrite.{passed};
 ghost use Rattle.wires.specs.Traced.{roots_in, passes_in, AllTraced};
 ghost use Rattle.first_clocks.specs.Holders.{Holder, Remembered};

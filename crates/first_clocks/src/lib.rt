@@ -1,13 +1,13 @@
 // The first words of a netlist: it is run from reset, with all inputs 0, and the words that are wanted are taken clock by clock.
 #![tactic(auto)]
+
 mod holders;
 mod queue;
 
 ghost use Rattle.std.specs.Prelude.{◌≡◌, true, List, ℕ, ◌+◌, ◌<◌, ◌≤◌, length, get_or};
-ghost use Rattle.netlist.specs.Net.{Net, size, in_clock};
+ghost use Rattle.netlist.specs.Net.{size, in_clock};
 ghost use Rattle.netlist.specs.Checks.{WellFormed};
 ghost use Rattle.circuit.specs.Circuit.{order_of, net_of, Circuit};
-ghost use Rattle.circuit.specs.Opened.{opened};
 ghost use Rattle.circuit.specs.Order.{Complete};
 ghost use Rattle.evaluate.specs.Clock.{Inside};
 ghost use Rattle.evaluate.specs.Next.{next_word, WordsFit};
