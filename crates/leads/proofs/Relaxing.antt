@@ -16,7 +16,7 @@ use Rattle.retiming.specs.AtMostRoms.{rom_count}
 use Rattle.retiming.specs.LateLeads.{origin}
 use Rattle.leads.specs.Progress.{Served, ServedTo, Content, Raise, enough, lifted, Progress, progress_none, progress_map, raised_more}
 
-pub raise_bit : {L M : List ℕ} {u due taken j : ℕ} → Raise L u due taken M j → j ≤ 1
+pub raise_bit : {L : List ℕ} {u due taken : ℕ} {M : List ℕ} {j : ℕ} → Raise L u due taken M j → j ≤ 1
 raise_bit (enough l) = omega arith
 raise_bit (lifted l) = omega arith
 

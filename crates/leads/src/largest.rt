@@ -1,7 +1,6 @@
 // The largest lead of a netlist: nobody plans by it, and the preview tells it.
 ghost use Rattle.std.specs.Prelude.{◌≡◌, false, max};
-ghost use Rattle.netlist.specs.Net.{Net, Sourced};
-ghost use Rattle.circuit.specs.Opened.{opened};
+ghost use Rattle.netlist.specs.Net.{Sourced};
 ghost use Rattle.retiming.specs.Leads.{closed_debt};
 ghost use Rattle.retiming.specs.Rewrite.{timing};
 ghost use Rattle.retiming.specs.Preview.{largest_lead_of};

@@ -1,15 +1,15 @@
 // The leads of an opened netlist, and with them the checks 11 and 12, in either mode. Numbers, counted from an origin, are raised until no reader asks more of what it
 // reads. 0 says that no walk counts.
 #![tactic(auto)]
+
 pub mod largest;
 mod modes;
 mod worklist;
 
 ghost use Rattle.std.specs.Prelude.{◌≡◌, Bool, ℕ, ◌+◌, ◌<◌, ◌≤◌, length, get_or, ltb};
 ghost use Rattle.lists.specs.Lists.{any_below, lowest};
-ghost use Rattle.netlist.specs.Net.{Net, size, Sourced};
+ghost use Rattle.netlist.specs.Net.{size, Sourced};
 ghost use Rattle.circuit.specs.Circuit.{net_of, Circuit};
-ghost use Rattle.circuit.specs.Opened.{opened};
 ghost use Rattle.retiming.specs.AtMostRoms.{rom_count};
 ghost use Rattle.retiming.specs.LateLeads.{origin};
 ghost use Rattle.retiming.specs.Modes.{mode_ends, mode_timing};

@@ -1,7 +1,6 @@
 // What the mode decides: where the search begins, and how the numbers that it found are those of the mode's timing.
 ghost use Rattle.std.specs.Prelude.{◌≡◌, false, cond, ◌<◌, ◌≤◌, length};
-ghost use Rattle.netlist.specs.Net.{Net, size, Sourced};
-ghost use Rattle.circuit.specs.Opened.{opened};
+ghost use Rattle.netlist.specs.Net.{size, Sourced};
 ghost use Rattle.retiming.specs.LateLeads.{origin, lead_to};
 ghost use Rattle.retiming.specs.Modes.{mode_ends, mode_closed, mode_timing};
 ghost use Rattle.leads.specs.Progress.{Walked};

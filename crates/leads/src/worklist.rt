@@ -1,8 +1,7 @@
 // A worklist: nodes whose numbers were raised wait on a stack until they raise what they read. It saves passes, and nobody trusts it.
 ghost use Rattle.std.specs.Prelude.{◌≡◌, ◌+◌, ◌≤◌, ◌<◌, length};
-ghost use Rattle.netlist.specs.Net.{Net, size, Sourced};
+ghost use Rattle.netlist.specs.Net.{size, Sourced};
 ghost use Rattle.circuit.specs.Circuit.{Circuit, net_of};
-ghost use Rattle.circuit.specs.Opened.{opened};
 ghost use Rattle.leads.specs.Progress.{StillWalked};
 
 use super::relax;
