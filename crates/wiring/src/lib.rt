@@ -1,12 +1,12 @@
 // The wires of the netlist in a row, three to a node, each with its root, its source, and the clock of the reset word that a ROM at its root takes from it.
 #![tactic(auto)]
+
 pub mod links;
 
 ghost use Rattle.std.specs.Prelude.{◌≡◌, cond, ◌+◌, ◌-◌, ◌*◌, ◌<◌, ◌≤◌, length};
 ghost use Rattle.lists.specs.Lists.{one};
-ghost use Rattle.netlist.specs.Net.{Net, size, element_at, is_memory};
+ghost use Rattle.netlist.specs.Net.{size, element_at, is_memory};
 ghost use Rattle.circuit.specs.Circuit.{net_of, Circuit};
-ghost use Rattle.circuit.specs.Opened.{opened};
 ghost use Rattle.retiming.specs.Modes.{mode_timing};
 ghost use Rattle.wiring.specs.Wiring.{Timed, heads_in, Entered, count_from, asked_clock, wire_count};
 
