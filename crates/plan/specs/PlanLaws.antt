@@ -1,5 +1,5 @@
 -- From the areas of each step to the plan. Assumes nothing.
-use Rattle.std.specs.Prelude.{◌≡◌, refl, Bool, true, false, cond, ℕ, ◌+◌, ◌-◌, ◌*◌, ◌/◌, ◌%◌, ◌≤◌, ◌<◌, length, replicate}
+use Rattle.std.specs.Prelude.{◌≡◌, refl, Bool, true, false, cond, ℕ, ◌+◌, ◌*◌, ◌/◌, ◌%◌, ◌≤◌, ◌<◌, length, replicate}
 use Rattle.std.proofs.Common.{sym, ap₂, subst, ◌∙◌, not-suc-le-zero, arith, length-append}
 use Rattle.std.proofs.Math.Path.{ap}
 use Rattle.std.proofs.Math.Logic.{⊎_elim}
@@ -14,7 +14,7 @@ use Rattle.retiming.proofs.Candidate.{word_before, word_after}
 use Rattle.first_clocks.specs.Wanted.{OfNodes, Taken}
 use Rattle.wires.specs.Traced.{roots_in, passes_in}
 use Rattle.wiring.specs.Wiring.{Ready, Timed, ends_in, froms_in, clocks_in, heads_in, Entered, count_from_lem, asked_clock, source_of, wire_at, last_clock, Wired, WiredTo, Copied}
-use Rattle.wiring.specs.WiringLaws.{wire_inside, asked_before, asked-after, counted, wired_none, wired_as}
+use Rattle.wiring.specs.WiringLaws.{wire_inside, asked_before, asked-after, wired_none, wired_as}
 use Rattle.wiring.specs.Links.{LinkedFrom, RomsLinked, linked_none, linked_as, roms_linked}
 use Rattle.plan.specs.Entries.{Wants, AllPlaced}
 use Rattle.plan.specs.EntriesLaws.{all_wanted}

@@ -1,7 +1,6 @@
 // The nodes of the rewritten netlist that are no registers, in the file's order: an old node that is no register once, a ROM once for each different reset word.
 ghost use Rattle.std.specs.Prelude.{◌≡◌, true, ◌+◌, ◌<◌, ◌≤◌, length, set};
-ghost use Rattle.netlist.specs.Net.{Net, size};
-ghost use Rattle.circuit.specs.Opened.{opened};
+ghost use Rattle.netlist.specs.Net.{size};
 ghost use Rattle.retiming.specs.Modes.{mode_timing};
 ghost use Rattle.wiring.specs.Wiring.{Timed, ends_in, clocks_in, heads_in};
 ghost use Rattle.wiring.specs.Links.{Chained, RomsLinked};

@@ -1,12 +1,12 @@
 // Where everything goes in the rewritten netlist, and which words its ROMs take over: document 01, "Leads and the rewritten file".
 #![tactic(auto)]
+
 mod entries;
 pub mod registers;
 
 ghost use Rattle.std.specs.Prelude.{◌≡◌, ◌*◌, length};
-ghost use Rattle.netlist.specs.Net.{Net, size, in_clock};
+ghost use Rattle.netlist.specs.Net.{size, in_clock};
 ghost use Rattle.circuit.specs.Circuit.{order_of, net_of, Circuit};
-ghost use Rattle.circuit.specs.Opened.{opened};
 ghost use Rattle.circuit.specs.Order.{Complete};
 ghost use Rattle.evaluate.specs.Clock.{Inside};
 ghost use Rattle.first_clocks.specs.Wanted.{WordsAt, Taken};

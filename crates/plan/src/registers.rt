@@ -1,7 +1,6 @@
 // The registers of the rewritten netlist: those of each wire, by reader, by operand, from source to reader; and what each entry reads.
 ghost use Rattle.std.specs.Prelude.{◌≡◌, ◌+◌, ◌*◌, ◌<◌, ◌≤◌, length, get_or, set};
-ghost use Rattle.netlist.specs.Net.{Net, element_at, operands};
-ghost use Rattle.circuit.specs.Opened.{opened};
+ghost use Rattle.netlist.specs.Net.{element_at, operands};
 ghost use Rattle.retiming.specs.Modes.{mode_timing};
 ghost use Rattle.wires.specs.Traced.{roots_in, passes_in};
 ghost use Rattle.wiring.specs.Wiring.{ends_in};
