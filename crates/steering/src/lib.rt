@@ -1,5 +1,6 @@
 // The gates of a late start: document 02, T-05. On a wire from a late source they show its reader the old reset words, and one chain of registers steers them all.
 #![tactic(auto)]
+
 mod chain;
 mod pairs;
 
@@ -19,7 +20,7 @@ use retiming::Mode;
 
 // A plan with its gates: the mode, how many nodes come before the registers, how many before the gates, the registers of the chain (none where there are no gates),
 // and how many nodes there are.
-#[derive(Drop)]
+#[derive(Clone, Copy)]
 pub struct Steered {
     pub mode: Mode,
     pub entries: usize,
