@@ -1,5 +1,6 @@
 // A circuit gets rid of the tables that no node reads: document 02, T-06. The others keep their order, and each ROM reads the table that it read.
 #![tactic(auto)]
+
 ghost use Rattle.std.specs.Prelude.{◌≡◌, map, ℕ, ◌<◌, ◌≤◌, length, get_or};
 ghost use Rattle.netlist.specs.Net.{Net};
 ghost use Rattle.netlist.specs.Checks.{HasTables};
