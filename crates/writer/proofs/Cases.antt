@@ -1,28 +1,20 @@
 -- The operations that the last arm of `put_gate` is for hold nothing but their number. Assumes nothing.
-use mathlib.Core.Path.{◌≡◌, refl}
-use mathlib.Core.List.{List, [], ◌∷◌}
-use Prim.Native.Nat.{ℕ}
-use types.Run.{OneOf, miss}
-use denote.Enum.Declared.{tag_of}
+use Rattle.std.proofs.Common.{◌≡◌, refl, [], ℕ}
 use Rattle.words.specs.declared.Op.{Op}
 use Rattle.words.specs.declared.Op.TheVariants.{Constant, Not, And, Or, Xor, Add, Subtract, Equal, Less, Choose, Part, Join}
-use Rattle.words.specs.contracts.Op as op
 use Rattle.netlist.specs.NodeField.{op_extra}
 
 -- all but a constant and a part
-abbrev bare : List ℕ
-bare = 1 ∷ 2 ∷ 3 ∷ 4 ∷ 5 ∷ 6 ∷ 7 ∷ 8 ∷ 9 ∷ 11 ∷ []
-
-pub no_extra : (o : Op) → OneOf bare (tag_of op.the_type o) → op_extra o ≡ []
-no_extra (Constant v) h = absurd (miss bare 0 tt h)
-no_extra Not h = refl
-no_extra And h = refl
-no_extra Or h = refl
-no_extra Xor h = refl
-no_extra Add h = refl
-no_extra Subtract h = refl
-no_extra Equal h = refl
-no_extra Less h = refl
-no_extra Choose h = refl
-no_extra (Part b) h = absurd (miss bare 10 tt h)
-no_extra Join h = refl
+pub no_extra : (o : Op) → ((v : ℕ) → o ≡ Constant v → ⊥) → ((b : ℕ) → o ≡ Part b → ⊥) → op_extra o ≡ []
+no_extra (Constant v) h l = absurd (h v refl)
+no_extra Not h l = refl
+no_extra And h l = refl
+no_extra Or h l = refl
+no_extra Xor h l = refl
+no_extra Add h l = refl
+no_extra Subtract h l = refl
+no_extra Equal h l = refl
+no_extra Less h l = refl
+no_extra Choose h l = refl
+no_extra (Part b) h l = absurd (l b refl)
+no_extra Join h l = refl

@@ -1,6 +1,7 @@
 // Writes the fields of a netlist file into a lent output. Each function writes at an offset and returns the offset after what it wrote:
 // `Puts before at bytes next after` says both, and that no other byte of the output differs.
 #![tactic(auto)]
+
 ghost use Rattle.std.specs.Prelude.{◌≡◌, [], ◌∷◌, ◌++◌, ◌+◌, ◌*◌, ◌≤◌, length};
 ghost use Rattle.words.specs.Words.{bytes};
 ghost use Rattle.netlist.specs.Field.{field};

@@ -1,0 +1,7 @@
+-- The front, and then the source.
+use native.Mathlib.Omega.{arith}
+use Rattle.writer.specs.Written.{puts_more}
+use Rattle.writer.proofs.put_sourced.Goals as goal
+
+pub returns : goal.returns
+returns c = puts_more (omega arith) c.put_front-after_width.ensures c.put_word.ensures

@@ -1,0 +1,10 @@
+-- The length that stands in the file, past tag and length.
+use native.Mathlib.Omega.{arith}
+use Rattle.writer.specs.Copied.{table-size}
+use Rattle.writer.proofs.table_length.Goals as goal
+
+pub returns : goal.returns
+returns c =
+    let a = c.args in
+    let n = table-size a.file.now a.from c.requires (λ i. omega (arith, c.type_inv.file i)) in
+    (omega (arith, n, c.word_at.ensures), omega arith)
