@@ -1,5 +1,6 @@
 // The file of a circuit: how long it is, and its writing, field by field at an offset that is carried along.
 #![tactic(auto)]
+
 ghost use Rattle.std.specs.Prelude.{◌≡◌, ◌++◌, ◌+◌, ◌≤◌, ◌<◌, length, drop};
 ghost use Rattle.lists.specs.Lists.{concat_map};
 ghost use Rattle.netlist.specs.Net.{Net, size, node_at};
