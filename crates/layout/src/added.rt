@@ -1,7 +1,6 @@
 // The rows that only a late start has: the constant that fills the chain, the chain, and the gates with their constants.
 ghost use Rattle.std.specs.Prelude.{◌≡◌, ◌<◌, ◌≤◌, length, get_or};
-ghost use Rattle.netlist.specs.Net.{Net, size};
-ghost use Rattle.circuit.specs.Opened.{opened};
+ghost use Rattle.netlist.specs.Net.{size};
 ghost use Rattle.retiming.specs.Modes.{mode_timing};
 ghost use Rattle.plan.specs.Areas.{owners_in, late_in, sources_in};
 ghost use Rattle.layout.specs.Planned.{Planned};

@@ -1,13 +1,12 @@
 // The planned netlist as a circuit: the tables as they came, and each node as it is planned.
 #![tactic(auto)]
+
 mod added;
 pub mod reset;
 mod rows;
 
 ghost use Rattle.std.specs.Prelude.{◌≡◌, ◌*◌, ◌≤◌, ◌<◌, length};
-ghost use Rattle.netlist.specs.Net.{Net};
 ghost use Rattle.circuit.specs.Circuit.{circuit_words, net_of, Circuit};
-ghost use Rattle.circuit.specs.Opened.{opened};
 ghost use Rattle.behaviour.specs.Run.{zero_word};
 ghost use Rattle.retiming.specs.Gates.{gated_with};
 ghost use Rattle.retiming.specs.Modes.{mode_timing};

@@ -1,8 +1,7 @@
 // The reset words of the planned nodes: those that ROMs take over are in the plan, those of the registers and the constants of the gates are found.
 ghost use Rattle.std.specs.Prelude.{◌≡◌, ◌≤◌, length};
-ghost use Rattle.netlist.specs.Net.{Net, in_clock};
+ghost use Rattle.netlist.specs.Net.{in_clock};
 ghost use Rattle.circuit.specs.Circuit.{order_of, net_of, Circuit};
-ghost use Rattle.circuit.specs.Opened.{opened};
 ghost use Rattle.circuit.specs.Order.{Complete};
 ghost use Rattle.evaluate.specs.Clock.{Inside};
 ghost use Rattle.retiming.specs.Modes.{mode_timing};

@@ -1,7 +1,6 @@
 // The row of a node, by what it is.
 ghost use Rattle.std.specs.Prelude.{◌≡◌, cond, ◌<◌, eqb};
-ghost use Rattle.netlist.specs.Net.{Net, size};
-ghost use Rattle.circuit.specs.Opened.{opened};
+ghost use Rattle.netlist.specs.Net.{size};
 ghost use Rattle.layout.specs.NewRow.{entry_node, register_node, constant_node, choose_node, RowOf};
 ghost use Rattle.circuit.specs.Circuit.{net_of, Circuit};
 
