@@ -1,6 +1,7 @@
 // The preview: what rewriting a file into an output as long as is wanted would give. Checks 1 to 13; then 14, where the list for the registers by source is
 // too short. Nothing else is written.
 #![tactic(auto)]
+
 mod sources;
 
 ghost use Rattle.std.specs.Prelude.{◌≡◌, length};
