@@ -1,5 +1,6 @@
-// The exports for C hosts: include/punqelis.h declares them. A slice is a pointer and a length; the answer is one number.
+// What C hosts call, over Rattle's slices; the crate punqelis_c exports it. The answer is one number.
 #![tactic(auto)]
+
 ghost use Rattle.std.specs.Prelude.{◌≡◌, ◌≤◌};
 ghost use Rattle.netlist.specs.File.{check_answer};
 ghost use Rattle.behaviour.specs.Service.{reset_file, run_file};
@@ -86,16 +87,14 @@ fn numbers(p: Preview) -> PunqelisSize
 }
 
 // Checks a netlist file (1 to 10): its length, or the refusal.
-#[unsafe(no_mangle)]
-pub extern "C" fn punqelis_check(file: &[u8]) -> u32
+pub fn punqelis_check(file: &[u8]) -> u32
     ensures { result ≡ as_number (check_answer file.now) }
 {
     code(check_file(file))
 }
 
 // Fills a state with the reset words: its length, or the refusal, which leaves the state as it was.
-#[unsafe(no_mangle)]
-pub extern "C" fn punqelis_reset(file: &[u8], state: &mut [u8]) -> u32
+pub fn punqelis_reset(file: &[u8], state: &mut [u8]) -> u32
     ensures { (result ≡ as_number (reset_file file.now state.old).answer)
         × (state.new ≡ (reset_file file.now state.old).state) }
 {
@@ -103,13 +102,7 @@ pub extern "C" fn punqelis_reset(file: &[u8], state: &mut [u8]) -> u32
 }
 
 // Runs one clock: the length of the outputs, or the refusal, which leaves state and outputs as they were.
-#[unsafe(no_mangle)]
-pub extern "C" fn punqelis_run(
-    file: &[u8],
-    state: &mut [u8],
-    inputs: &[u8],
-    outputs: &mut [u8],
-) -> u32
+pub fn punqelis_run(file: &[u8], state: &mut [u8], inputs: &[u8], outputs: &mut [u8]) -> u32
     ensures { (result ≡ as_number (run_file file.now state.old inputs.now outputs.old).answer)
         × (state.new ≡ (run_file file.now state.old inputs.now outputs.old).state)
         × (outputs.new ≡ (run_file file.now state.old inputs.now outputs.old).outputs) }
@@ -118,8 +111,7 @@ pub extern "C" fn punqelis_run(
 }
 
 // Runs a list of clocks, each with its row of the inputs and its row of the outputs: 0, or the refusal, which leaves state and outputs as they were.
-#[unsafe(no_mangle)]
-pub extern "C" fn punqelis_run_list(
+pub fn punqelis_run_list(
     file: &[u8],
     state: &mut [u8],
     inputs: &[u8],
@@ -134,8 +126,7 @@ pub extern "C" fn punqelis_run_list(
 }
 
 // Rewrites a file so that all its ROMs are clocked: the new file's length, or the refusal, which leaves the output as it was.
-#[unsafe(no_mangle)]
-pub extern "C" fn punqelis_rewrite(file: &[u8], out: &mut [u8]) -> u32
+pub fn punqelis_rewrite(file: &[u8], out: &mut [u8]) -> u32
     ensures { (result ≡ as_number (rewrite_file file.now out.old).answer)
         × (out.new ≡ (rewrite_file file.now out.old).out) }
 {
@@ -143,8 +134,7 @@ pub extern "C" fn punqelis_rewrite(file: &[u8], out: &mut [u8]) -> u32
 }
 
 // Rewrites a file with a late start, for a ROM straight behind an input port: likewise.
-#[unsafe(no_mangle)]
-pub extern "C" fn punqelis_rewrite_late(file: &[u8], out: &mut [u8]) -> u32
+pub fn punqelis_rewrite_late(file: &[u8], out: &mut [u8]) -> u32
     ensures { (result ≡ as_number (late_rewrite file.now out.old).answer)
         × (out.new ≡ (late_rewrite file.now out.old).out) }
 {
@@ -152,8 +142,7 @@ pub extern "C" fn punqelis_rewrite_late(file: &[u8], out: &mut [u8]) -> u32
 }
 
 // What rewriting a file would give: the new file's size, and its registers by source in the list; or the refusal (1 to 14), which leaves the list as it was.
-#[unsafe(no_mangle)]
-pub extern "C" fn punqelis_preview(file: &[u8], list: &mut [u8]) -> PunqelisSize
+pub fn punqelis_preview(file: &[u8], list: &mut [u8]) -> PunqelisSize
     ensures { (result ≡ as_numbers (preview_file file.now list.old).preview)
         × (list.new ≡ (preview_file file.now list.old).list) }
 {
