@@ -1,0 +1,36 @@
+-- What was read is a part of the file's room; what is written is within the output's.
+use Rattle.std.proofs.Common.{ℕ, arith, sym, length-take-le}
+use Rattle.std.proofs.lemmas.List.{length-replicate}
+use Rattle.rewrite_stream.specs.Read.{answers}
+use Rattle.rewrite_stream.proofs.Replied.{accepted_within, replies}
+use Rattle.rewrite_stream.proofs.rewrite_stream.Goals as goal
+
+pub slice_bounds-out-end : goal.slice_bounds-out-end
+slice_bounds-out-end g c =
+    let a = c.in-Accepted.ensures.answer in
+    omega (arith, accepted_within c.args.mode _ _ a.1 (length-replicate {A = ℕ} 46000 0) a.0, c.rewrite_bytes-answer.auto.out)
+
+pub slice_bounds-write_all-end : goal.slice_bounds-write_all-end
+slice_bounds-write_all-end g c =
+    let a = c.in-Accepted.ensures.answer in
+    sym (length-take-le _ _ (omega (arith, accepted_within c.args.mode _ _ a.1 (length-replicate {A = ℕ} 46000 0) a.0, c.rewrite_bytes-answer.auto.out)))
+
+pub returns-in_ok-write_all-in-Accepted-clause-answers : goal.returns-in_ok-write_all-in-Accepted-clause-answers
+returns-in_ok-write_all-in-Accepted-clause-answers g c =
+    let a = c.in-Accepted.ensures.answer in answers c.args.mode c.in_ok-n.n c.read_full.new.room a.1 (omega (arith, c.read_full.auto.room)) a.0
+
+pub returns-in_ok-write_all-in-Accepted-clause-replies : goal.returns-in_ok-write_all-in-Accepted-clause-replies
+returns-in_ok-write_all-in-Accepted-clause-replies g c =
+    let a = c.in-Accepted.ensures.answer in
+    let n = c.in_ok-n.ensures in
+    replies c.args.mode c.in_ok-n.n c.read_full.new.room c.rewrite_bytes-answer.new.out (omega (arith, c.read_full.auto.room)) n.within n.bytes n.end a.1 a.0 c.in-Accepted.ensures.written c.in_ok-write_all-in-Accepted.ensures.bytes
+
+pub returns-in_ok-write_refusal-in-Refused-clause-answers : goal.returns-in_ok-write_refusal-in-Refused-clause-answers
+returns-in_ok-write_refusal-in-Refused-clause-answers g c =
+    let a = c.in-Refused.ensures.answer in answers c.args.mode c.in_ok-n.n c.read_full.new.room a.1 (omega (arith, c.read_full.auto.room)) a.0
+
+pub returns-in_ok-write_refusal-in-Refused-clause-replies : goal.returns-in_ok-write_refusal-in-Refused-clause-replies
+returns-in_ok-write_refusal-in-Refused-clause-replies g c =
+    let a = c.in-Refused.ensures.answer in
+    let n = c.in_ok-n.ensures in
+    replies c.args.mode c.in_ok-n.n c.read_full.new.room c.rewrite_bytes-answer.new.out (omega (arith, c.read_full.auto.room)) n.within n.bytes n.end a.1 a.0 c.in-Refused.ensures.written c.in_ok-write_refusal-in-Refused.ensures
