@@ -1,9 +1,11 @@
 // Reads a netlist file on standard input and writes the late-started file, or the line `refused 12 0` (number, place).
 #![tactic(auto)]
-use libc::{STDIN_FILENO, STDOUT_FILENO};
+
 use retiming::Mode;
 use rewrite_stream::rewrite_stream;
+use std::io;
 
-fn main() {
-    rewrite_stream(Mode::Late, STDIN_FILENO, STDOUT_FILENO);
+fn main(rt: HostRuntime) -> io::Result<()> {
+    rewrite_stream(Mode::Late, &mut rt.reader(), &mut io::writer(&rt))?;
+    Ok(())
 }
