@@ -4,7 +4,7 @@
  * A netlist file describes a clocked circuit of ports, registers, ROMs and gates. A ROM's table
  * is a field of tag 2, with a word for every address, or of tag 5: address bits, width, a fill
  * word and the first words; an address past the last word reads the fill word.
- * Link with libpunqelis.a, which harness/run copies to target/staticlib/ (`rt lib` in crates/punqelis_c writes it, as out/libpunqelis_c.a).
+ * Link with target/staticlib/libpunqelis.a, which tools/staticlib builds.
  *
  * Every function answers one number, the preview four more beside it:
  *   below 65,536   accepted, and the number is a length in bytes (see each function), but 0 for a
@@ -24,7 +24,7 @@
  * outputs, out, by_source) must not overlap with any other memory lent to the same call. When a
  * call is refused, no lent byte has changed. Bytes past the result are never changed.
  * There is no heap. Of the stack both rewritings, the preview and a list of runs take 87 KiB and
- * every other function at most 43 KiB, as measured.
+ * every other function at most 43 KiB, as measured with the older kit.
  *
  * Refusals, in the order in which they are looked for. 17 stands among 1 to 10: a function that is
  * said to check 1 to 10 checks it with them.
