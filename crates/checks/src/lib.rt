@@ -23,15 +23,15 @@ use rules::sources::lowest_bad_source;
 use rules::tables::lowest_unread_table;
 use rules::widths::lowest_bad_width;
 
-// A node, or why there is none. (An enum that holds an array is not covered: the answer stands beside the node.)
-#[derive(Drop)]
+// A node, or why there is none: the answer stands beside the node.
+#[derive(Clone, Copy)]
 pub struct NodeAnswer {
     pub answer: Answer,
     pub node: Node,
 }
 
 // The stored words of a table, as the part of the caller's file that holds them, or why there are none: then the part is empty.
-#[derive(Drop)]
+#[derive(Clone, Copy)]
 pub struct TableAnswer<'a> {
     pub answer: Answer,
     pub words: &'a [u8],

@@ -39,7 +39,7 @@ const TURN: usize = 8;
 pub const WORDS: usize = 10304;
 
 // What a row says of its node: the code of its element, its width, how many sources count, three sources, the number that it holds, its table.
-#[derive(Drop)]
+#[derive(Clone, Copy)]
 pub struct Row {
     pub code: u16,
     pub width: u16,

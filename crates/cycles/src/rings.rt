@@ -38,7 +38,7 @@ fn source_at(file: &[u8], net: &[u16], v: usize) -> usize
 }
 
 // Registers of which each reads the next: how many, and the rank of what the last one reads.
-#[derive(Drop)]
+#[derive(Clone, Copy)]
 pub struct Chain {
     pub length: usize,
     pub base: usize,

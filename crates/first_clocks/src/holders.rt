@@ -12,7 +12,7 @@ use circuit::{source_of, wide};
 use wires::{PASSES, ROOTS};
 
 // A node's holder: the node so many registers back from it on its wire.
-#[derive(Drop)]
+#[derive(Clone, Copy)]
 pub struct Held {
     pub node: usize,
     pub back: u16,

@@ -1,4 +1,4 @@
--- What stands in a list made by `concatMap`, `only` and `distinct`, and that `distinct` leaves each element once. Assumes nothing.
+-- What stands in a list made by `concat_map`, `only` and `distinct`, and that `distinct` leaves each element once. Assumes nothing.
 use Rattle.std.specs.Prelude.{◌≡◌, refl, ◌⊎◌, Bool, true, false, ◌||◌, List, [], ◌∷◌, ◌++◌, ℕ, zero, suc, ◌+◌, ◌<◌, length, get_or, eqb}
 use Rattle.std.proofs.Common.{sym, ap, ◌∙◌, subst, inl, inr, ⊎_elim, true≢false, not-suc-le-zero, le_of_suc-le-suc, arith}
 use Rattle.std.proofs.lemmas.Bool.{false≢true}

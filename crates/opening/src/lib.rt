@@ -41,7 +41,7 @@ fn put_table(net: &mut [u16], t: usize, at: u16)
 }
 
 // How far a list of fields is read: up to the offset behind them, or up to a bad one, with its place.
-#[derive(Drop)]
+#[derive(Clone, Copy)]
 enum Read {
     Behind(usize),
     Bad(u16),

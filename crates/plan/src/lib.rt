@@ -38,7 +38,7 @@ pub const SOURCES: usize = 4096;
 pub const PLAN: usize = 7168;
 
 // The mode, how many nodes come before the registers, and how many there are.
-#[derive(Drop)]
+#[derive(Clone, Copy)]
 pub struct Plan {
     pub mode: Mode,
     pub entries: usize,
@@ -46,7 +46,7 @@ pub struct Plan {
 }
 
 // Operand p of entry e.
-#[derive(Drop)]
+#[derive(Clone, Copy)]
 pub struct Operand {
     pub e: usize,
     pub p: usize,

@@ -21,7 +21,7 @@ use run_list::run_list;
 
 // The header's struct punqelis_size.
 #[repr(C)]
-#[derive(Drop)]
+#[derive(Clone, Copy)]
 pub struct PunqelisSize {
     pub answer: u32,
     pub clocked_roms: u32,

@@ -58,7 +58,7 @@ fn byte_word(x: u8) -> u16
 }
 
 // The number that a node holds, and its table; 0 where it has none.
-#[derive(Drop)]
+#[derive(Clone, Copy)]
 pub struct Held {
     pub number: u16,
     pub table: u16,

@@ -30,7 +30,7 @@ use wires::{TIMING, find_roots};
 use wiring::WIRES;
 
 // The new circuit is laid, and in the plain mode this is the largest lead; or the refusal.
-#[derive(Drop)]
+#[derive(Clone, Copy)]
 pub enum Retimed {
     Laid(u16),
     Refused(u8, u16),

@@ -4,7 +4,7 @@ use Rattle.lists.specs.Lists.{below, select, count_below, total}
 use Rattle.netlist.specs.Net.{Net, size, element_at, source, operands, is_register}
 use Rattle.retiming.specs.Rewrite.{root, passed}
 
--- s is a register on a wire that comes from u, wherever it stands on it: `from-source` (BySourceLaws) says it by steps
+-- s is a register on a wire that comes from u, wherever it stands on it: `from_source` (BySourceLaws) says it by steps
 unfoldable pub on_wire_from : Net → ℕ → ℕ → Bool
 on_wire_from M u s = is_register (element_at M s) && eqb (root M s) u
 

@@ -1,4 +1,4 @@
--- The late start on bytes: document 02, T-05, "a late_start rewriting, chosen by the caller". Assumes nothing.
+-- The late start on bytes: document 02, T-05, "a late-start rewriting, chosen by the caller". Assumes nothing.
 use Rattle.std.specs.Prelude.{◌≡◌, List, [], ℕ}
 use Rattle.netlist.specs.Verdict.{onward}
 use Rattle.netlist.specs.File.{Decoded, bad, good, decode, decoded_net, file_verdict, encode}

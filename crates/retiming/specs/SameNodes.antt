@@ -1,4 +1,4 @@
--- Which node of the new file is which of the old one, of every file that a mode accepts: what `comesFrom` means, and so "the same nodes" of T-07. A node that comes
+-- Which node of the new file is which of the old one, of every file that a mode accepts: what `comes_from` means, and so "the same nodes" of T-07. A node that comes
 -- from u has u's element, a ROM clocked, and u's width; what comes from none is a register, a constant or a choose gate; and each node that is no register and is not
 -- left out has one that comes from it. `s` is the old file and `N` its netlist, `s'` the new file and `M` its netlist. Assumes nothing.
 use Rattle.std.specs.Prelude.{◌≡◌, false, [], ◌∷◌, ℕ, ◌<◌}

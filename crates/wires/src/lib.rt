@@ -25,7 +25,7 @@ pub const NEVER: u16 = 65534;
 const WAITS: u16 = 65535;
 
 // Where a wire begins, and the registers passed on the way back to it.
-#[derive(Drop)]
+#[derive(Clone, Copy)]
 struct Wire {
     root: u16,
     through: u16,

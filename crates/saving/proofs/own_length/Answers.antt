@@ -1,4 +1,4 @@
--- At each code that an arm names `ownLength` computes.
+-- At each code that an arm names `own_length` computes.
 use mathlib.Core.Path.{refl, sym, ap}
 use native.Mathlib.Omega.{arith}
 use Rattle.lists.specs.Paths.{pick}
