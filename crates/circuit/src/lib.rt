@@ -6,7 +6,7 @@ mod tables;
 
 ghost use Rattle.std.specs.Prelude.{◌≡◌, ◌+◌, ◌*◌, ◌^◌, ◌<◌, ◌≤◌, length, get_or, set, eqb};
 ghost use Rattle.lists.specs.Lists.{one};
-ghost use Rattle.netlist.specs.Net.{Net, no_table, spelled, size, element_at, width_at, source, operands, is_input, is_output, is_register, is_async, is_clocked, count_of};
+ghost use Rattle.netlist.specs.Net.{no_table, spelled, size, element_at, width_at, source, operands, is_input, is_output, is_register, is_async, is_clocked, count_of};
 ghost use Rattle.netlist.specs.ScanLaws.{TableAt};
 ghost use Rattle.netlist.specs.File.{table_in};
 ghost use Rattle.circuit.specs.Code.{code_of, number_or, table_or};

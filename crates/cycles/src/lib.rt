@@ -5,10 +5,9 @@ pub mod rings;
 
 ghost use Rattle.std.specs.Prelude.{◌≡◌, ◌<◌, ◌≤◌, length};
 ghost use Rattle.lists.specs.Lists.{lowest};
-ghost use Rattle.netlist.specs.Net.{Net, size, in_clock, Sourced};
+ghost use Rattle.netlist.specs.Net.{size, in_clock, Sourced};
 ghost use Rattle.netlist.specs.Reach.{reaches_itself};
 ghost use Rattle.circuit.specs.Circuit.{net_of, order_of, Circuit};
-ghost use Rattle.circuit.specs.Opened.{opened};
 ghost use Rattle.circuit.specs.Order.{Complete};
 ghost use Rattle.order.specs.Order.{class_of};
 ghost use Rattle.cycles.specs.Spread.{touches, Reached, ReachedOnce, ReachedPass};

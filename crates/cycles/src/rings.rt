@@ -1,10 +1,9 @@
 // Check 10 by ranks: where a rank falls along each step into a register there is no ring. The ranks are proposed, not trusted: they are looked over once.
 ghost use Rattle.std.specs.Prelude.{◌≡◌, true, ◌≤◌, ◌<◌, length, get_or};
 ghost use Rattle.lists.specs.Lists.{lowest};
-ghost use Rattle.netlist.specs.Net.{Net, size, in_registers, Sourced, RankedIn};
+ghost use Rattle.netlist.specs.Net.{size, in_registers, Sourced, RankedIn};
 ghost use Rattle.netlist.specs.Reach.{reaches_itself};
 ghost use Rattle.circuit.specs.Circuit.{Circuit, net_of};
-ghost use Rattle.circuit.specs.Opened.{opened};
 ghost use Rattle.cycles.specs.Falls.{Falls};
 
 use super::lowest_on_cycle;

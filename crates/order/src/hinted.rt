@@ -1,9 +1,8 @@
 // The order of a hint, looked over while it is taken: a node is placed only where all that it reads is placed.
 ghost use Rattle.std.specs.Prelude.{◌≡◌, ◌≤◌, length};
-ghost use Rattle.netlist.specs.Net.{Net, in_clock, Sourced};
+ghost use Rattle.netlist.specs.Net.{in_clock, Sourced};
 ghost use Rattle.netlist.specs.Checks.{WellFormed};
 ghost use Rattle.circuit.specs.Circuit.{net_of, order_of, Circuit};
-ghost use Rattle.circuit.specs.Opened.{opened};
 ghost use Rattle.circuit.specs.Order.{Complete};
 ghost use Rattle.order.specs.Order.{flags_in, order_in, Placed};
 

@@ -5,9 +5,8 @@
 pub mod hinted;
 
 ghost use Rattle.std.specs.Prelude.{◌≡◌, true, false, ℕ, ◌<◌, ◌≤◌, length, get_or};
-ghost use Rattle.netlist.specs.Net.{Net, size, element_at, in_clock, Sourced};
+ghost use Rattle.netlist.specs.Net.{size, element_at, in_clock, Sourced};
 ghost use Rattle.circuit.specs.Circuit.{net_of, order_of, Circuit};
-ghost use Rattle.circuit.specs.Opened.{opened};
 ghost use Rattle.order.specs.Pass.{Waiting};
 ghost use Rattle.order.specs.Order.{class_of, flags_in, order_in, Placed, ready, PlacedOnce, PlacedPass, Outcome};
 

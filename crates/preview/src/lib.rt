@@ -5,9 +5,7 @@
 mod sources;
 
 ghost use Rattle.std.specs.Prelude.{◌≡◌, length};
-ghost use Rattle.netlist.specs.Net.{Net};
 ghost use Rattle.circuit.specs.Circuit.{net_of, Circuit};
-ghost use Rattle.circuit.specs.Opened.{opened};
 ghost use Rattle.retiming.specs.BySource.{by_source};
 ghost use Rattle.retiming.specs.RegistersLast.{RegistersLast};
 ghost use Rattle.retiming.specs.Preview.{previewed, preview_file};

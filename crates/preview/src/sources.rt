@@ -1,8 +1,7 @@
 // The registers by source, in a lent list of two bytes a number.
 ghost use Rattle.std.specs.Prelude.{◌≡◌, ◌++◌, ◌+◌, ◌*◌, ◌≤◌, ◌<◌, length, replicate, drop};
 ghost use Rattle.words.specs.Words.{word, put_word};
-ghost use Rattle.netlist.specs.Net.{Net, size};
-ghost use Rattle.circuit.specs.Opened.{opened};
+ghost use Rattle.netlist.specs.Net.{size};
 ghost use Rattle.retiming.specs.Rewrite.{root};
 ghost use Rattle.retiming.specs.RegistersLast.{RegistersLast};
 ghost use Rattle.retiming.specs.Preview.{source_bytes};

@@ -2,10 +2,9 @@
 #![tactic(auto)]
 
 ghost use Rattle.std.specs.Prelude.{◌≡◌, false, ◌≤◌, length};
-ghost use Rattle.netlist.specs.Net.{Net, in_clock};
+ghost use Rattle.netlist.specs.Net.{in_clock};
 ghost use Rattle.netlist.specs.Checks.{HasTables, WellFormed};
 ghost use Rattle.circuit.specs.Circuit.{circuit_words, order_of, net_of, Circuit};
-ghost use Rattle.circuit.specs.Opened.{opened};
 ghost use Rattle.circuit.specs.Order.{Complete};
 ghost use Rattle.evaluate.specs.Clock.{Inside};
 ghost use Rattle.behaviour.specs.Run.{zero_word};

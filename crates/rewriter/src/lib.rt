@@ -2,7 +2,6 @@
 #![tactic(auto)]
 
 ghost use Rattle.std.specs.Prelude.{◌≡◌};
-ghost use Rattle.netlist.specs.Net.{Net};
 ghost use Rattle.netlist.specs.File.{encode};
 ghost use Rattle.circuit.specs.Circuit.{net_of, Circuit};
 ghost use Rattle.retiming.specs.FileRewrite.{written, rewrite_file};

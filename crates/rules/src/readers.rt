@@ -1,9 +1,8 @@
 // Check 8: no reader, and not a port.
 ghost use Rattle.std.specs.Prelude.{◌≡◌, ◌+◌, ◌<◌, ◌≤◌};
 ghost use Rattle.lists.specs.Lists.{lowest};
-ghost use Rattle.netlist.specs.Net.{Net, size, source};
+ghost use Rattle.netlist.specs.Net.{size, source};
 ghost use Rattle.netlist.specs.Verdict.{unread};
-ghost use Rattle.circuit.specs.Opened.{opened};
 ghost use Rattle.rules.specs.Marks.{Marks, Marked};
 ghost use Rattle.circuit.specs.Circuit.{net_of, Circuit};
 

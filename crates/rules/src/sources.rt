@@ -1,10 +1,9 @@
 // Check 6: no such node or table, or an output port as source.
 ghost use Rattle.std.specs.Prelude.{◌≡◌, not, ◌<◌, ◌≤◌};
 ghost use Rattle.lists.specs.Lists.{any_below, lowest};
-ghost use Rattle.netlist.specs.Net.{Net, size, element_at, source};
+ghost use Rattle.netlist.specs.Net.{size, element_at, source};
 ghost use Rattle.netlist.specs.Verdict.{table_there, no_source, bad_source};
 ghost use Rattle.circuit.specs.Circuit.{net_of, Circuit};
-ghost use Rattle.circuit.specs.Opened.{opened};
 ghost use Rattle.rules.specs.Marks.{Marks};
 ghost use Rattle.rules.specs.OrFirst.{OrFirst};
 

@@ -1,10 +1,9 @@
 // Check 17: a table that no node reads.
 ghost use Rattle.std.specs.Prelude.{◌≡◌, ℕ, ◌≤◌, ◌<◌, length, get_or, set, eqb};
 ghost use Rattle.lists.specs.Lists.{one, lowest};
-ghost use Rattle.netlist.specs.Net.{Net, size, element_at};
+ghost use Rattle.netlist.specs.Net.{size, element_at};
 ghost use Rattle.netlist.specs.Checks.{HasTables};
 ghost use Rattle.netlist.specs.Verdict.{reads_table, unread_table};
-ghost use Rattle.circuit.specs.Opened.{opened};
 ghost use Rattle.rules.specs.TableMarks.{Unmarked, TableMarks};
 ghost use Rattle.circuit.specs.Circuit.{net_of, Circuit};
 

@@ -1,11 +1,10 @@
 // Check 7: the width rules.
 ghost use Rattle.std.specs.Prelude.{◌≡◌, true, ◌&&◌, ℕ, ◌<◌, ◌≤◌};
 ghost use Rattle.lists.specs.Lists.{lowest};
-ghost use Rattle.netlist.specs.Net.{Net, size, element_at, width_at, source, is_memory};
+ghost use Rattle.netlist.specs.Net.{size, element_at, width_at, source, is_memory};
 ghost use Rattle.netlist.specs.Verdict.{widths_right, bad_width};
 ghost use Rattle.circuit.specs.Code.{code_of, Coded};
 ghost use Rattle.circuit.specs.Circuit.{net_of, Circuit};
-ghost use Rattle.circuit.specs.Opened.{opened};
 ghost use Rattle.rules.specs.Sides.{sides};
 
 use circuit::{

@@ -2,7 +2,7 @@
 #![tactic(auto)]
 
 ghost use Rattle.std.specs.Prelude.{◌≡◌, true, ◌*◌, ◌<◌, length};
-ghost use Rattle.netlist.specs.Net.{Net, size, element_at, in_clock};
+ghost use Rattle.netlist.specs.Net.{size, element_at, in_clock};
 ghost use Rattle.netlist.specs.Checks.{WellFormed};
 ghost use Rattle.circuit.specs.Circuit.{order_of, net_of, Circuit};
 ghost use Rattle.circuit.specs.Opened.{opened};

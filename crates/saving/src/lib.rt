@@ -3,11 +3,10 @@
 
 ghost use Rattle.std.specs.Prelude.{◌≡◌, ◌++◌, ◌+◌, ◌≤◌, ◌<◌, length, drop};
 ghost use Rattle.lists.specs.Lists.{concat_map};
-ghost use Rattle.netlist.specs.Net.{Net, size, node_at};
+ghost use Rattle.netlist.specs.Net.{size, node_at};
 ghost use Rattle.netlist.specs.File.{table_bytes, node_bytes, encode};
 ghost use Rattle.netlist.specs.Offsets.{fields_of, field_at, offset_of};
 ghost use Rattle.circuit.specs.Circuit.{net_of, Circuit};
-ghost use Rattle.circuit.specs.Opened.{opened};
 ghost use Rattle.writer.specs.Written.{Puts};
 ghost use Rattle.saving.specs.Lengths.{own_length};
 

@@ -1,7 +1,6 @@
 // How long the chain is: as long as the wire needs that has the last gate.
 ghost use Rattle.std.specs.Prelude.{◌≡◌, ◌≤◌, ◌<◌, max, length};
-ghost use Rattle.netlist.specs.Net.{Net, size};
-ghost use Rattle.circuit.specs.Opened.{opened};
+ghost use Rattle.netlist.specs.Net.{size};
 ghost use Rattle.behaviour.specs.Run.{zero_word};
 ghost use Rattle.retiming.specs.Gates.{steers_of, chain_length};
 ghost use Rattle.retiming.specs.Modes.{mode_timing};

@@ -5,8 +5,6 @@ mod chain;
 mod pairs;
 
 ghost use Rattle.std.specs.Prelude.{◌≡◌, ◌+◌, ◌≤◌, ◌<◌, length};
-ghost use Rattle.netlist.specs.Net.{Net};
-ghost use Rattle.circuit.specs.Opened.{opened};
 ghost use Rattle.retiming.specs.Modes.{mode_timing};
 ghost use Rattle.wiring.specs.Wiring.{Timed};
 ghost use Rattle.plan.specs.Plan.{PlanLaid};

@@ -1,7 +1,6 @@
 // The gates with their constants, by reader, operand and clock; each reader of such a wire reads its first gate.
 ghost use Rattle.std.specs.Prelude.{◌≡◌, ◌+◌, ◌*◌, ◌<◌, ◌≤◌, length, get_or};
-ghost use Rattle.netlist.specs.Net.{Net, element_at, operands};
-ghost use Rattle.circuit.specs.Opened.{opened};
+ghost use Rattle.netlist.specs.Net.{element_at, operands};
 ghost use Rattle.behaviour.specs.Run.{zero_word};
 ghost use Rattle.retiming.specs.Rewrite.{places};
 ghost use Rattle.retiming.specs.Modes.{mode_timing};

@@ -2,12 +2,10 @@
 #![tactic(auto)]
 
 ghost use Rattle.std.specs.Prelude.{◌≡◌, map, ℕ, ◌<◌, ◌≤◌, length, get_or};
-ghost use Rattle.netlist.specs.Net.{Net};
 ghost use Rattle.netlist.specs.Checks.{HasTables};
 ghost use Rattle.netlist.specs.Trim.{renumbered, trimmed};
 ghost use Rattle.circuit.specs.Circuit.{nodes_of, tables_of, net_of, Circuit};
 ghost use Rattle.circuit.specs.Building.{Built};
-ghost use Rattle.circuit.specs.Opened.{opened};
 ghost use Rattle.trimming.specs.Numbers.{Numbered};
 
 use areas::number_at;
