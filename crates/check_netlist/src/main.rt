@@ -2,9 +2,9 @@
 #![tactic(auto)]
 
 use checks::check_file;
-use input::read_full;
 use netlist::Answer;
 use std::io;
+use streams::read_full;
 
 // Two numbers, and the end of the line.
 fn print_pair(rt: &impl Print, number: u8, place: u16) -> io::Result<()> {

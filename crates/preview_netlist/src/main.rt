@@ -6,11 +6,11 @@
 ghost use Rattle.std.specs.Prelude.{◌*◌, ◌≤◌, length};
 
 use circuit::wide;
-use input::read_full;
 use preview::preview_file;
 use retiming::{Preview, Size};
 use std::io;
 use std::io::Write;
+use streams::read_full;
 use words::word_at;
 
 // A text, and a number behind it.

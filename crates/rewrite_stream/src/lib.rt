@@ -8,12 +8,12 @@ ghost use Rattle.retiming.specs.Modes.{mode_rewrite};
 ghost use Rattle.rewrite_stream.specs.Read.{Answers};
 ghost use Rattle.rewrite_stream.specs.Reply.{refusal_line, Replies};
 
-use input::read_full;
 use netlist::Answer;
 use retiming::Mode;
 use rewriter::rewrite_in;
 use std::io;
 use std::io::{Read, Write};
+use streams::read_full;
 
 // Writes the line of a refusal.
 fn write_refusal<W: Write>(to: &mut W, number: u8, place: u16) -> io::Result<()>
