@@ -7,7 +7,7 @@ use std::io;
 use streams::read_full;
 
 // Two numbers, and the end of the line.
-fn print_pair(rt: &impl Print, number: u8, place: u16) -> io::Result<()> {
+fn print_pair(rt: &impl Print, number: u64, place: u64) -> io::Result<()> {
     println!(rt; "{number} {place}")
 }
 
@@ -19,7 +19,7 @@ fn main(rt: HostRuntime) -> io::Result<()> {
         Answer::Accepted(length) => println!(rt; "accepted {length}"),
         Answer::Refused(number, place) => {
             print!(rt; "refused ")?;
-            print_pair(&rt, number, place)
+            print_pair(&rt, number as u64, place as u64)
         }
     }
 }
