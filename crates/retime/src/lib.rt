@@ -57,7 +57,8 @@ fn lay_timed(file: &[u8], net: &[u16], mode: Mode, timing: &[u16], new: &mut [u1
     );
     let steered = add_gates(file, net, timing, made, &mut plan);
     let total = steered.total;
-    if 1024 < total {
+    let grown = 1024 < total;
+    if grown {
         return Verdict::Refuses(13, 65535);
     }
     let mut words = [0u16; 1024];

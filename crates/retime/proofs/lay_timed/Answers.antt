@@ -23,11 +23,11 @@ make_plan-made-requires-clause-asked c =
     let f = c.first_clock in
     (p.asked.0, p.asked.1, p.asked.2, p.asked.3, f.ensures, f.auto.words ∙ length-replicate {A = ℕ} 1024 0, length-take-le 10240 c.args.new.now (omega (arith, p.asked.4)), length-replicate {A = ℕ} 7168 0)
 
-pub returns-then-total-gt1024 : goal.returns-then-total-gt1024
-returns-then-total-gt1024 c =
+pub returns-then-grown : goal.returns-then-grown
+returns-then-grown c =
     let a = c.args in
     let g = c.add_gates-steered.ensures in
-    (says_13 _ (net_of a.file.now a.net.now) c.requires.asked.5 c.make_plan-made.ensures.1 (g.0.over c.if-total-gt1024.true), λ e. absurd (refuses_not e))
+    (says_13 _ (net_of a.file.now a.net.now) c.requires.asked.5 c.make_plan-made.ensures.1 (g.0.over c.if-grown.true), λ e. absurd (refuses_not e))
 
 pub slice_bounds-reset_words-end-4 : goal.slice_bounds-reset_words-end-4
 slice_bounds-reset_words-end-4 c =
@@ -55,7 +55,7 @@ reset_words-requires-clause-asked c =
       length-take-le 7168 (m.new.wires ++ drop 10240 l) (omega (arith, length_front l m.new.wires 10240 m.auto.wires, p.asked.4)),
       length-replicate {A = ℕ} 1024 0,
       subst (λ (k : Mode). Steering N (mode_timing k N) g.new.plan g.result.entries g.result.wired g.result.chain g.result.total) (sym same) g.ensures.0,
-      omega (arith, c.if-total-gt1024.false),
+      omega (arith, c.if-grown.false),
     )
 
 pub returns : goal.returns
@@ -63,4 +63,4 @@ returns c =
     let a = c.args in
     let N = net_of a.file.now a.net.now in
     let same = c.add_gates-steered.ensures.1 ∙ c.make_plan-made.ensures.1 in
-    (says_fine _ N c.requires.asked.5 same (omega (arith, c.reset_words.ensures.count, c.if-total-gt1024.false)), λ _. laid_as _ N c.requires.asked.5 same c.lay_circuit.ensures)
+    (says_fine _ N c.requires.asked.5 same (omega (arith, c.reset_words.ensures.count, c.if-grown.false)), λ _. laid_as _ N c.requires.asked.5 same c.lay_circuit.ensures)
