@@ -52,9 +52,8 @@ fn main(rt: HostRuntime) -> io::Result<()> {
     let mut list = [0u8; 2048];
     match preview_file(&file[..n], &mut list) {
         Preview::Fits(size) => {
-            let sources = wide(size.sources);
             print_size(&rt, size)?;
-            print_list(&rt, &list, sources)?;
+            print_list(&rt, &list, wide(size.sources))?;
         }
         Preview::Refused(number, place) => print_refusal(&rt, number, place)?,
     }
