@@ -5,7 +5,6 @@ ghost use Rattle.std.specs.Prelude.{◌≡◌, true, ◌*◌, ◌<◌, length};
 ghost use Rattle.netlist.specs.Net.{size, element_at, in_clock};
 ghost use Rattle.netlist.specs.Checks.{WellFormed};
 ghost use Rattle.circuit.specs.Circuit.{order_of, net_of, Circuit};
-ghost use Rattle.circuit.specs.Opened.{opened};
 ghost use Rattle.circuit.specs.Order.{Complete};
 ghost use Rattle.behaviour.specs.Run.{holds_first, reset_state, next_state};
 ghost use Rattle.behaviour.specs.Service.{bytes_of, words_in, reset_net, reset_file, run_net, run_file};

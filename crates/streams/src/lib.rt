@@ -28,7 +28,7 @@ fn read_some<R: Read>(from: &mut R, room: &mut [u8]) -> io::Result<usize>
     Err(Error::from(ErrorKind::TimedOut))
 }
 
-// Reads until the room is full or the input ends: how many bytes. Where the reader's bytes are known, those that now stand in the room are what it lost.
+// Reads until the room is full or the input ends: how many bytes. Where the reader's bytes are known, that many of them now stand at the front of the room, and it has lost them.
 // After a failed read, too, what was read before it stands at the front of the room.
 pub fn read_full<R: Read>(from: &mut R, room: &mut [u8]) -> io::Result<usize>
     ensures within { IfOk result (λ n. n ≤ length room.new) }
