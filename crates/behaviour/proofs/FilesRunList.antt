@@ -6,8 +6,7 @@ use Rattle.lists.specs.Lists.{below, concat_map}
 use Rattle.netlist.specs.Net.{Net}
 use Rattle.netlist.specs.Checks.{WellFormed}
 use Rattle.netlist.specs.File.{ReadAs}
-use Rattle.netlist.specs.declared.Verdict.{Verdict}
-use Rattle.netlist.specs.declared.Verdict.TheVariants.{Fine, Refuses}
+use Rattle.netlist.specs.Verdict.{Verdict, Fine, Refuses}
 use Rattle.behaviour.specs.Run.{reset_state}
 use Rattle.behaviour.specs.Runs.{input_widths, output_widths, state_widths}
 use Rattle.behaviour.specs.Alike.{Alike}

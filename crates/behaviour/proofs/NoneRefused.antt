@@ -9,7 +9,7 @@ use Rattle.netlist.specs.Net.{Net}
 use Rattle.netlist.specs.Checks.{WellFormed}
 use Rattle.netlist.proofs.VerdictLaws.{refuses_not}
 use Rattle.netlist.specs.File.{ReadAs}
-use Rattle.netlist.specs.declared.Verdict.TheVariants.{Fine, Refuses}
+use Rattle.netlist.specs.Verdict.{Fine, Refuses}
 use Rattle.behaviour.specs.Run.{run_outputs, run_state}
 use Rattle.behaviour.specs.Runs.{input_widths, output_widths, state_widths}
 use Rattle.behaviour.proofs.ClockFits.{holders_fit, state_stays_fit}

@@ -12,11 +12,9 @@ use Rattle.lists.proofs.BelowLaws.{and_right, eqb-true, all_below_elim}
 use Rattle.lists.proofs.Sections.{section-length}
 use Rattle.netlist.specs.Net.{Net}
 use Rattle.netlist.specs.Checks.{WellFormed}
-use Rattle.netlist.specs.Verdict.{onward}
+use Rattle.netlist.specs.Verdict.{onward, Verdict, Fine, Refuses}
 use Rattle.netlist.specs.File.{ReadAs, decode, decoded_net, file_verdict, answer}
 use Rattle.netlist.specs.declared.Answer.TheVariants.{Accepted, Refused}
-use Rattle.netlist.specs.declared.Verdict.{Verdict}
-use Rattle.netlist.specs.declared.Verdict.TheVariants.{Fine, Refuses}
 use Rattle.behaviour.specs.Run.{run_outputs}
 use Rattle.behaviour.specs.Runs.{input_widths, output_widths, state_widths, fitting}
 use Rattle.behaviour.proofs.ClockFits.{ports_fit, holders_fit, state_stays_fit}

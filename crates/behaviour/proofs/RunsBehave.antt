@@ -15,7 +15,7 @@ use Rattle.lists.proofs.ListsLaws.{concat_map-cong}
 use Rattle.netlist.specs.Net.{Net, size, element_at, is_output, Behaves, outputs_of}
 use Rattle.netlist.specs.Checks.{WellFormed}
 use Rattle.netlist.specs.File.{ReadAs, answer}
-use Rattle.netlist.specs.declared.Verdict.TheVariants.{Fine, Refuses}
+use Rattle.netlist.specs.Verdict.{Fine, Refuses}
 use Rattle.behaviour.specs.Run.{run_outputs, run_word, state_at}
 use Rattle.behaviour.specs.Runs.{input_widths, output_widths, state_widths, fitting}
 use Rattle.behaviour.specs.Service.{bytes_of, words_in, room_for, fitting_bytes, Filled, reset_file, Ran, run_net, run_file, Entry, Shown, runs_file}

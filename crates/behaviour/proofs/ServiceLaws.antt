@@ -7,10 +7,8 @@ use mathlib.Core.List.{List, [], ◌∷◌, map}
 use Rattle.lists.proofs.BelowLaws.{true_or_false}
 use Rattle.netlist.specs.Net.{Net}
 use Rattle.netlist.specs.Checks.{WellFormed}
-use Rattle.netlist.specs.Verdict.{onward}
+use Rattle.netlist.specs.Verdict.{onward, Verdict, Fine, Refuses}
 use Rattle.netlist.specs.File.{Decoded, ReadAs, decoded_net, judged, file_verdict, answer, given}
-use Rattle.netlist.specs.declared.Verdict.{Verdict}
-use Rattle.netlist.specs.declared.Verdict.TheVariants.{Fine, Refuses}
 use Rattle.behaviour.specs.Run.{run_outputs, run_state}
 use Rattle.behaviour.specs.Runs as runs
 use Rattle.behaviour.specs.Runs.{state_widths, fitting, takes, refusal, outcome, after}

@@ -2,10 +2,8 @@
 use Rattle.std.specs.Prelude.{◌≡◌, Bool, cond, ◌&&◌, List, ◌++◌, map, ℕ, ◌*◌, length, take, drop, eqb}
 use Rattle.lists.specs.Lists.{below, concat_map, all_below}
 use Rattle.netlist.specs.Net.{Net}
-use Rattle.netlist.specs.Verdict.{onward}
+use Rattle.netlist.specs.Verdict.{onward, Verdict, Fine, Refuses}
 use Rattle.netlist.specs.File.{decode, decoded_net, file_verdict, answer, given}
-use Rattle.netlist.specs.declared.Verdict.{Verdict}
-use Rattle.netlist.specs.declared.Verdict.TheVariants.{Fine, Refuses}
 use Rattle.behaviour.specs.Runs.{input_widths, output_widths, state_widths}
 use Rattle.behaviour.specs.Service.{fitting_bytes, reset_file, Ran, Entry, Shown, runs_file}
 use Rattle.behaviour.specs.Entries.{state_bytes, state_after}

@@ -9,7 +9,7 @@ use Rattle.std.proofs.Math.ListN.{get_or}
 use Rattle.lists.specs.Lists.{one}
 use Rattle.netlist.specs.Net.{Net, outputs_of}
 use Rattle.netlist.specs.File.{answer}
-use Rattle.netlist.specs.declared.Verdict.TheVariants.{Fine, Refuses}
+use Rattle.netlist.specs.Verdict.{Fine, Refuses}
 use Rattle.behaviour.specs.Service.{bytes_of, words_in, Entry, Shown}
 use Rattle.behaviour.specs.Lending.{takes_entry}
 

@@ -6,20 +6,12 @@ use netlist::Answer;
 use std::io;
 use streams::read_full;
 
-// Two numbers, and the end of the line.
-fn print_pair(rt: &impl Print, number: u64, place: u64) -> io::Result<()> {
-    println!(rt; "{number} {place}")
-}
-
 fn main(rt: HostRuntime) -> io::Result<()> {
     // One byte more than check 1 allows, so that a longer input is refused without being read whole.
     let mut file = [0u8; 46001];
     let n = read_full(&mut rt.reader(), &mut file)?;
     match check_file(&file[..n]) {
         Answer::Accepted(length) => println!(rt; "accepted {length}"),
-        Answer::Refused(number, place) => {
-            print!(rt; "refused ")?;
-            print_pair(&rt, number as u64, place as u64)
-        }
+        Answer::Refused(number, place) => println!(rt; "refused {number} {place}"),
     }
 }

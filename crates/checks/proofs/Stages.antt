@@ -10,10 +10,9 @@ use Rattle.lists.proofs.BelowLaws.{lowest_from_is}
 use Rattle.netlist.specs.Net.{in_clock, in_registers, Net, size, Sourced}
 use Rattle.netlist.specs.Reach.{reaches_itself}
 use Rattle.netlist.specs.Checks.{HasTables}
-use Rattle.netlist.specs.Verdict.{bad_source, bad_width, unread, unread_table, in_loop, in_ring, Stage, at_lowest, verdict, reader_stages, reader_verdict}
+use Rattle.netlist.specs.Verdict.{bad_source, bad_width, unread, unread_table, in_loop, in_ring, Stage, at_lowest, verdict, reader_stages, reader_verdict, Fine, Refuses}
 use Rattle.netlist.proofs.VerdictLaws.{six_is, six_sourced}
 use Rattle.netlist.proofs.Places.{skip, refuses}
-use Rattle.netlist.specs.declared.Verdict.TheVariants.{Fine, Refuses}
 use Rattle.checks.specs.Open.{from_nine}
 
 -- past a check that found nothing, nothing breaks its rule

@@ -4,13 +4,11 @@ use Rattle.lists.specs.Lists.{concat_map}
 use Rattle.lists.specs.Paths.{pick}
 use Rattle.words.specs.Words.{bytes}
 use Rattle.netlist.specs.Net.{no_table, Net, size, node_at}
-use Rattle.netlist.specs.Verdict.{onward}
+use Rattle.netlist.specs.Verdict.{onward, Verdict, Fine, Refuses}
 use Rattle.netlist.specs.NodeField.{no_node}
 use Rattle.netlist.specs.TableField.{stored}
 use Rattle.netlist.specs.File.{decode, decoded_net, file_verdict, answer, given}
 use Rattle.netlist.specs.declared.Answer.{Answer}
-use Rattle.netlist.specs.declared.Verdict.{Verdict}
-use Rattle.netlist.specs.declared.Verdict.TheVariants.{Fine, Refuses}
 use Rattle.checks.specs.declared.NodeAnswer.{NodeAnswer}
 
 -- 6 ("no such node or table") with place 65,535 where the number asked for is not below how many there are

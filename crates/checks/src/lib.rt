@@ -1,22 +1,23 @@
 // The reader's layer as run and rewriter see it: checks 1 to 10 and 17, a node by its number, a table's stored words.
 #![tactic(auto)]
 
-ghost use Rattle.std.specs.Prelude.{◌≡◌, ◌≤◌, length};
+ghost use Rattle.std.specs.Prelude.{◌≡◌, ◌≤◌, length, IfOk, IfErr};
 ghost use Rattle.netlist.specs.Net.{in_clock, Sourced};
-ghost use Rattle.netlist.specs.Verdict.{verdict, reader_verdict};
-ghost use Rattle.netlist.specs.File.{answer, check_answer};
-ghost use Rattle.circuit.specs.Circuit.{circuit_words, order_of, net_of, Circuit};
+ghost use Rattle.netlist.specs.NodeField.{no_node};
+ghost use Rattle.netlist.specs.Verdict.{verdict, reader_verdict, Refuses};
+ghost use Rattle.netlist.specs.Refusal.{number_of, place_of, said, refused};
+ghost use Rattle.netlist.specs.File.{check_answer, file_verdict};
+ghost use Rattle.circuit.specs.Circuit.{circuit_words};
 ghost use Rattle.circuit.specs.Order.{Complete};
-ghost use Rattle.checks.specs.Open.{from_nine, Opened};
+ghost use Rattle.checks.specs.Open.{from_nine, OpenedAs};
 ghost use Rattle.checks.specs.Services.{node_of_file, words_of_file};
-ghost use Rattle.checks.specs.TablePlaces.{Standing, words_at, place_verdict, Placed};
+ghost use Rattle.checks.specs.TablePlaces.{Placed};
 
-use circuit::{WORDS, node_count, table_count, table_place};
+use circuit::{Draft, WORDS};
 use cycles::lowest_cycle;
 use cycles::rings::lowest_ring;
-use netlist::{Answer, Element, Node, Verdict};
+use netlist::{Answer, Element, Node, Refusal};
 use opening::fill_circuit;
-use opening::rows::node_of;
 use reader::table_part;
 use rules::readers::lowest_unread;
 use rules::sources::lowest_bad_source;
@@ -37,68 +38,64 @@ pub struct TableAnswer<'a> {
     pub words: &'a [u8],
 }
 
-// The offset of a table's field, or a refusal.
-#[derive(Clone, Copy)]
-enum TablePlace {
-    At(usize),
-    Refuse(u8, u16),
-}
-
-// Checks 9 and 10; where neither is said, the circuit has an order.
-fn cycles_verdict(file: &[u8], net: &mut [u16]) -> Verdict
-    requires circuit { Circuit file.now net.old }
-    requires asked { let N = net_of file.now net.old in Sourced N }
-    ensures { let N = net_of file.now net.old in (net_of file.now net.new ≡ N) × Circuit file.now net.new
-        × (result ≡ verdict (from_nine N)) × (result ≡ Verdict.Fine → Complete in_clock N (order_of net.new)) }
+// Checks 9 and 10; where neither refuses, the draft has an order.
+fn check_cycles(draft: &mut Draft) -> Result<(), Refusal>
+    requires { Sourced draft.old.net }
+    ensures file { draft.new.file ≡ draft.old.file }
+    ensures net { draft.new.net ≡ draft.old.net }
+    ensures verdict { said result ≡ verdict (from_nine draft.old.net) }
+    ensures complete { IfOk result (λ _. Complete in_clock draft.old.net draft.new.order) }
 {
-    let n = node_count(file, net);
-    let loop_node = lowest_cycle(file, net);
+    let n = draft.node_count();
+    let loop_node = lowest_cycle(draft);
     if loop_node < n {
-        return Verdict::Refuses(9, loop_node as u16);
+        return Err(Refusal::Loop(loop_node as u16));
     }
-    let ring_node = lowest_ring(file, net);
+    let ring_node = lowest_ring(&draft.shown());
     if ring_node < n {
-        return Verdict::Refuses(10, ring_node as u16);
+        return Err(Refusal::Ring(ring_node as u16));
     }
-    Verdict::Fine
+    Ok(())
 }
 
 // Checks 6 to 10, and 17 among them.
-fn net_verdict(file: &[u8], net: &mut [u16]) -> Verdict
-    requires circuit { Circuit file.now net.old }
-    ensures { let N = net_of file.now net.old in (net_of file.now net.new ≡ N) × Circuit file.now net.new
-        × (result ≡ reader_verdict N) × (result ≡ Verdict.Fine → Complete in_clock N (order_of net.new)) }
+fn check_net(draft: &mut Draft) -> Result<(), Refusal>
+    ensures file { draft.new.file ≡ draft.old.file }
+    ensures net { draft.new.net ≡ draft.old.net }
+    ensures verdict { said result ≡ reader_verdict draft.old.net }
+    ensures complete { IfOk result (λ _. Complete in_clock draft.old.net draft.new.order) }
 {
-    let n = node_count(file, net);
+    let net = draft.shown();
+    let n = net.node_count();
     let mut marks = [0u8; 1024];
-    let source = lowest_bad_source(file, net, &mut marks);
+    let source = lowest_bad_source(&net, &mut marks);
     if source < n {
-        return Verdict::Refuses(6, source as u16);
+        return Err(Refusal::Source(source as u16));
     }
-    let width = lowest_bad_width(file, net);
+    let width = lowest_bad_width(&net);
     if width < n {
-        return Verdict::Refuses(7, width as u16);
+        return Err(Refusal::Width(width as u16));
     }
-    let unread = lowest_unread(file, net, &marks);
+    let unread = lowest_unread(&net, &marks);
     if unread < n {
-        return Verdict::Refuses(8, unread as u16);
+        return Err(Refusal::Unread(unread as u16));
     }
-    let table = lowest_unread_table(file, net);
-    if table < table_count(file, net) {
-        return Verdict::Refuses(17, table as u16);
+    let table = lowest_unread_table(&net);
+    if table < net.table_count() {
+        return Err(Refusal::UnreadTable(table as u16));
     }
-    cycles_verdict(file, net)
+    check_cycles(draft)
 }
 
-// Checks 1 to 10, and 17 among them, with the file's circuit left in the work area for whoever goes on.
-pub fn open_file(file: &[u8], net: &mut [u16]) -> Verdict
+// Checks 1 to 10, and 17 among them: the file's netlist, in room that the caller lends.
+pub fn open_file<'f, 'n>(file: &'f [u8], net: &'n mut [u16]) -> Result<Draft<'f, 'n>, Refusal>
     requires { circuit_words ≤ length net.old }
-    ensures { Opened file.now net.new result }
+    ensures ok { IfOk result (λ d. OpenedAs file.now d) }
+    ensures err { IfErr result (λ r. file_verdict file.now ≡ Refuses (number_of r) (place_of r)) }
 {
-    match fill_circuit(file, net) {
-        Verdict::Refuses(number, place) => Verdict::Refuses(number, place),
-        Verdict::Fine => net_verdict(file, net),
-    }
+    let mut draft = fill_circuit(file, net)?;
+    check_net(&mut draft)?;
+    Ok(draft)
 }
 
 // Checks a file: accepted with its length, or the refusal.
@@ -107,88 +104,76 @@ pub fn check_file(file: &[u8]) -> Answer
 {
     let mut net = [0u16; WORDS];
     match open_file(file, &mut net) {
-        Verdict::Refuses(number, place) => Answer::Refused(number, place),
-        Verdict::Fine => Answer::Accepted(file.len()),
+        Ok(_) => Answer::Accepted(file.len()),
+        Err(r) => Answer::from(r),
     }
 }
 
-// Node v of a file.
+// Node v of a file, with the number of its nodes: 6 where there is none.
+fn find_node(file: &[u8], v: usize) -> Result<NodeAnswer, Refusal>
+    ensures ok { IfOk result (λ found. found ≡ node_of_file file.now v) }
+    ensures err { IfErr result (λ r. record { answer = refused r; node = no_node } ≡ node_of_file file.now v) }
+{
+    let mut net = [0u16; WORDS];
+    let draft = open_file(file, &mut net)?;
+    let net = draft.finish();
+    let n = net.node_count();
+    if v < n {
+        Ok(NodeAnswer {
+            answer: Answer::Accepted(n),
+            node: net.node(v),
+        })
+    } else {
+        Err(Refusal::Source(65535))
+    }
+}
+
 pub fn read_node(file: &[u8], v: usize) -> NodeAnswer
     ensures { result ≡ node_of_file file.now v }
 {
-    let mut net = [0u16; WORDS];
-    let none = Node {
-        element: Element::Input,
-        width: 0,
-        sources: [0, 0, 0],
-    };
-    match open_file(file, &mut net) {
-        Verdict::Refuses(number, place) => NodeAnswer {
-            answer: Answer::Refused(number, place),
-            node: none,
+    match find_node(file, v) {
+        Ok(found) => found,
+        Err(r) => NodeAnswer {
+            answer: Answer::from(r),
+            node: Node {
+                element: Element::Input,
+                width: 0,
+                sources: [0, 0, 0],
+            },
         },
-        Verdict::Fine => {
-            let n = node_count(file, &net);
-            if v < n {
-                NodeAnswer {
-                    answer: Answer::Accepted(n),
-                    node: node_of(file, &net, v),
-                }
-            } else {
-                NodeAnswer {
-                    answer: Answer::Refused(6, 65535),
-                    node: none,
-                }
-            }
-        }
     }
 }
 
-// Where table k of a file stands, or why there is none.
-fn place_of(file: &[u8], k: usize) -> TablePlace
+// Where table k of a file stands: 6 where there is none.
+fn place_of(file: &[u8], k: usize) -> Result<usize, Refusal>
     ensures { Placed file.now k result }
 {
     let mut net = [0u16; WORDS];
-    match open_file(file, &mut net) {
-        Verdict::Refuses(number, place) => TablePlace::Refuse(number, place),
-        Verdict::Fine => {
-            if k < table_count(file, &net) {
-                TablePlace::At(table_place(file, &net, k))
-            } else {
-                TablePlace::Refuse(6, 65535)
+    let draft = open_file(file, &mut net)?;
+    let net = draft.finish();
+    if k < net.table_count() {
+        Ok(net.table_place(k))
+    } else {
+        Err(Refusal::Source(65535))
+    }
+}
+
+// The stored words of table k.
+pub fn table_words<'a>(file: &'a [u8], k: usize) -> TableAnswer<'a>
+    ensures answer { result.answer ≡ (words_of_file file.now k).answer }
+    ensures words { result.words.now ≡ (words_of_file file.now k).words }
+{
+    match place_of(file, k) {
+        Ok(at) => {
+            let words = table_part(file, at);
+            TableAnswer {
+                answer: Answer::Accepted(words.len()),
+                words,
             }
         }
+        Err(refusal) => TableAnswer {
+            answer: Answer::from(refusal),
+            words: &file[..0],
+        },
     }
-}
-
-// The stored words of the table that stands there.
-fn words_at(file: &[u8], place: TablePlace) -> &[u8]
-    requires { Standing file.now place }
-    ensures { result.now ≡ words_at file.now place }
-{
-    match place {
-        TablePlace::At(at) => table_part(file, at),
-        TablePlace::Refuse(_, _) => &file[..0],
-    }
-}
-
-// The answer that goes with them.
-fn answer_with(place: TablePlace, words: &[u8]) -> Answer
-    ensures { result ≡ answer (place_verdict place) (length words.now) }
-{
-    match place {
-        TablePlace::At(_) => Answer::Accepted(words.len()),
-        TablePlace::Refuse(number, place) => Answer::Refused(number, place),
-    }
-}
-
-// The stored words of table k: the work is done in the three above.
-pub fn table_words<'a>(file: &'a [u8], k: usize) -> TableAnswer<'a>
-    ensures { (result.answer ≡ (words_of_file file.now k).answer)
-        × (result.words.now ≡ (words_of_file file.now k).words) }
-{
-    let place = place_of(file, k);
-    let words = words_at(file, place);
-    let answer = answer_with(place, words);
-    TableAnswer { answer, words }
 }

@@ -4,3 +4,6 @@ pub mod Building
 pub mod Ordering
 pub mod Retabling
 pub mod Keeping
+pub mod Shows
+pub mod Heading
+pub mod RowLaws

@@ -4,3 +4,4 @@ pub mod Building
 pub mod Renumbering
 pub mod Opened
 pub mod Order
+pub mod Shown

@@ -1,18 +1,23 @@
 // The opened netlist in one slice of words: what it tells of a node and of a table, and how a node is put. Every pass goes by it.
 #![tactic(auto)]
 
+pub mod codes;
+mod draft;
+mod opened;
 pub mod renumber;
+mod rows;
 mod tables;
 
 ghost use Rattle.std.specs.Prelude.{◌≡◌, ◌+◌, ◌*◌, ◌^◌, ◌<◌, ◌≤◌, length, get_or, set, eqb};
-ghost use Rattle.lists.specs.Lists.{one};
-ghost use Rattle.netlist.specs.Net.{no_table, spelled, size, element_at, width_at, source, operands, is_input, is_output, is_register, is_async, is_clocked, count_of};
+ghost use Rattle.netlist.specs.Net.{no_table, spelled, size, element_at, width_at, source, operands, count_of};
 ghost use Rattle.netlist.specs.ScanLaws.{TableAt};
 ghost use Rattle.netlist.specs.File.{table_in};
 ghost use Rattle.circuit.specs.Code.{code_of, number_or, table_or};
 ghost use Rattle.circuit.specs.Circuit.{field, row_node, nodes_of, tables_of, order_of, net_of, Fits, Formed, Circuit};
 ghost use Rattle.circuit.specs.Building.{Pushed};
 
+pub use draft::Draft;
+pub use opened::Netlist;
 use tables::word_in;
 
 // Where the rows begin, and the words of a row.
@@ -49,191 +54,167 @@ pub struct Row {
     pub table: u16,
 }
 
-pub fn wide(x: u16) -> usize
-    ensures { (result ≡ x) × (result ≤ 65535) }
-{
-    x as usize
-}
-
-// 1 where a code is that of a kind: 0 an input port, 1 an output port, 2 a register, 3 an asynchronous ROM, 4 a clocked one.
-pub fn is_kind(code: usize, kind: usize) -> usize
-    ensures { (result ≡ one (eqb code kind)) × (result ≤ 1) }
-{
-    if code == kind { 1 } else { 0 }
-}
-
 // Word k of node v.
 fn field_of(file: &[u8], net: &[u16], v: usize, k: usize) -> usize
-    requires { Circuit file.now net.now × (v < size (net_of file.now net.now)) × (k < 10) }
-    ensures { (result ≡ field net.now v k) × (result ≤ 65535) }
+    requires circuit { Circuit file.now net.now }
+    requires node { v < size (net_of file.now net.now) }
+    requires few { k < 10 }
+    ensures word { result ≡ field net.now v k }
+    ensures few { result ≤ 65535 }
 {
-    wide(net[ROWS + ROW * v + k])
+    net[ROWS + ROW * v + k] as usize
 }
 
 // The number of nodes.
-pub fn node_count(file: &[u8], net: &[u16]) -> usize
+fn node_count(file: &[u8], net: &[u16]) -> usize
     requires { Circuit file.now net.now }
-    ensures { (result ≡ size (net_of file.now net.now)) × (result ≤ 1024) }
+    ensures count { result ≡ size (net_of file.now net.now) }
+    ensures few { result ≤ 1024 }
 {
-    wide(net[0])
+    net[0] as usize
 }
 
-pub fn code_of(file: &[u8], net: &[u16], v: usize) -> usize
-    requires { Circuit file.now net.now × (v < size (net_of file.now net.now)) }
-    ensures { (result ≡ code_of (element_at (net_of file.now net.now) v)) × (result < 20) }
+fn code_of(file: &[u8], net: &[u16], v: usize) -> usize
+    requires circuit { Circuit file.now net.now }
+    requires node { v < size (net_of file.now net.now) }
+    ensures code { result ≡ code_of (element_at (net_of file.now net.now) v) }
+    ensures few { result < 20 }
 {
     field_of(file, net, v, CODE)
 }
 
-pub fn width_of(file: &[u8], net: &[u16], v: usize) -> usize
-    requires { Circuit file.now net.now × (v < size (net_of file.now net.now)) }
-    ensures { (result ≡ width_at (net_of file.now net.now) v) × (result < 256) }
+fn width_of(file: &[u8], net: &[u16], v: usize) -> usize
+    requires circuit { Circuit file.now net.now }
+    requires node { v < size (net_of file.now net.now) }
+    ensures width { result ≡ width_at (net_of file.now net.now) v }
+    ensures few { result < 256 }
 {
     field_of(file, net, v, WIDTH)
 }
 
 // How many sources node v has.
-pub fn source_count(file: &[u8], net: &[u16], v: usize) -> usize
-    requires { Circuit file.now net.now × (v < size (net_of file.now net.now)) }
-    ensures { (result ≡ operands (element_at (net_of file.now net.now) v)) × (result ≤ 3) }
+fn source_count(file: &[u8], net: &[u16], v: usize) -> usize
+    requires circuit { Circuit file.now net.now }
+    requires node { v < size (net_of file.now net.now) }
+    ensures count { result ≡ operands (element_at (net_of file.now net.now) v) }
+    ensures few { result ≤ 3 }
 {
     field_of(file, net, v, COUNT)
 }
 
 // Source p of node v.
-pub fn source_of(file: &[u8], net: &[u16], v: usize, p: usize) -> usize
-    requires { Circuit file.now net.now × (v < size (net_of file.now net.now)) × (p < 3) }
-    ensures { (result ≡ source (net_of file.now net.now) v p) × (result ≤ 65535) }
+fn source_of(file: &[u8], net: &[u16], v: usize, p: usize) -> usize
+    requires circuit { Circuit file.now net.now }
+    requires node { v < size (net_of file.now net.now) }
+    requires place { p < 3 }
+    ensures source { result ≡ source (net_of file.now net.now) v p }
+    ensures few { result ≤ 65535 }
 {
     field_of(file, net, v, SOURCES + p)
 }
 
 // The number that node v holds, and its table: what they are where it has one.
-pub fn number_of(file: &[u8], net: &[u16], v: usize) -> usize
-    requires { Circuit file.now net.now × (v < size (net_of file.now net.now)) }
-    ensures { (result ≡ number_or result (element_at (net_of file.now net.now) v)) × (result ≤ 65535) }
+fn number_of(file: &[u8], net: &[u16], v: usize) -> usize
+    requires circuit { Circuit file.now net.now }
+    requires node { v < size (net_of file.now net.now) }
+    ensures number { result ≡ number_or result (element_at (net_of file.now net.now) v) }
+    ensures few { result ≤ 65535 }
 {
     field_of(file, net, v, NUMBER)
 }
 
-pub fn table_of(file: &[u8], net: &[u16], v: usize) -> usize
-    requires { Circuit file.now net.now × (v < size (net_of file.now net.now)) }
-    ensures { (result ≡ table_or result (element_at (net_of file.now net.now) v)) × (result < 256) }
+fn table_of(file: &[u8], net: &[u16], v: usize) -> usize
+    requires circuit { Circuit file.now net.now }
+    requires node { v < size (net_of file.now net.now) }
+    ensures table { result ≡ table_or result (element_at (net_of file.now net.now) v) }
+    ensures few { result < 256 }
 {
     field_of(file, net, v, TABLE)
 }
 
 // The node whose turn comes at place i of the order.
-pub fn order_of(file: &[u8], net: &[u16], i: usize) -> usize
-    requires { Circuit file.now net.now × (i < size (net_of file.now net.now)) }
-    ensures { (result ≡ get_or (order_of net.now) i 0) × (result ≤ 65535) }
+fn order_of(file: &[u8], net: &[u16], i: usize) -> usize
+    requires circuit { Circuit file.now net.now }
+    requires node { i < size (net_of file.now net.now) }
+    ensures turn { result ≡ get_or (order_of net.now) i 0 }
+    ensures few { result ≤ 65535 }
 {
     field_of(file, net, i, TURN)
 }
 
 // Writes place i of the order: the circuit shows the same netlist.
-pub fn put_order(file: &[u8], net: &mut [u16], i: usize, x: u16)
+fn put_order(file: &[u8], net: &mut [u16], i: usize, x: u16)
     requires circuit { Circuit file.now net.old }
     requires asked { let N = net_of file.now net.old in i < size N }
-    ensures { let N = net_of file.now net.old in (net_of file.now net.new ≡ N) × Circuit file.now net.new
-        × (order_of net.new ≡ set (order_of net.old) i x) }
+    ensures net { let N = net_of file.now net.old in net_of file.now net.new ≡ N }
+    ensures circuit { Circuit file.now net.new }
+    ensures order { order_of net.new ≡ set (order_of net.old) i x }
 {
     net[ROWS + ROW * i + TURN] = x;
 }
 
-// 1 where node v is of a kind.
-pub fn input(file: &[u8], net: &[u16], v: usize) -> usize
-    requires { Circuit file.now net.now × (v < size (net_of file.now net.now)) }
-    ensures { (result ≡ one (is_input (element_at (net_of file.now net.now) v))) × (result ≤ 1) }
-{
-    is_kind(code_of(file, net, v), 0)
-}
-
-pub fn output(file: &[u8], net: &[u16], v: usize) -> usize
-    requires { Circuit file.now net.now × (v < size (net_of file.now net.now)) }
-    ensures { (result ≡ one (is_output (element_at (net_of file.now net.now) v))) × (result ≤ 1) }
-{
-    is_kind(code_of(file, net, v), 1)
-}
-
-pub fn register(file: &[u8], net: &[u16], v: usize) -> usize
-    requires { Circuit file.now net.now × (v < size (net_of file.now net.now)) }
-    ensures { (result ≡ one (is_register (element_at (net_of file.now net.now) v))) × (result ≤ 1) }
-{
-    is_kind(code_of(file, net, v), 2)
-}
-
-pub fn async_rom(file: &[u8], net: &[u16], v: usize) -> usize
-    requires { Circuit file.now net.now × (v < size (net_of file.now net.now)) }
-    ensures { (result ≡ one (is_async (element_at (net_of file.now net.now) v))) × (result ≤ 1) }
-{
-    is_kind(code_of(file, net, v), 3)
-}
-
-pub fn clocked_rom(file: &[u8], net: &[u16], v: usize) -> usize
-    requires { Circuit file.now net.now × (v < size (net_of file.now net.now)) }
-    ensures { (result ≡ one (is_clocked (element_at (net_of file.now net.now) v))) × (result ≤ 1) }
-{
-    is_kind(code_of(file, net, v), 4)
-}
-
 // How many nodes are of a kind.
-pub fn count_kind(file: &[u8], net: &[u16], kind: usize) -> usize
+fn count_kind(file: &[u8], net: &[u16], kind: usize) -> usize
     requires { Circuit file.now net.now }
-    ensures { (result ≡ count_of (λ e. eqb (code_of e) kind) (net_of file.now net.now)) × (result ≤ 1024) }
+    ensures count { result ≡ count_of (λ e. eqb (code_of e) kind) (net_of file.now net.now) }
+    ensures few { result ≤ 1024 }
 {
     let n = node_count(file, net);
     let mut count: usize = 0;
-    let mut v: usize = 0;
-    while v < n {
-        count = count + is_kind(code_of(file, net, v), kind);
-        v = v + 1;
+    for v in 0..n {
+        count += (code_of(file, net, v) == kind) as usize;
     }
     count
 }
 
 // The number of tables.
-pub fn table_count(file: &[u8], net: &[u16]) -> usize
+fn table_count(file: &[u8], net: &[u16]) -> usize
     requires { Circuit file.now net.now }
-    ensures { (result ≡ length (tables_of net.now)) × (result ≡ length (net_of file.now net.now).tables) × (result ≤ 16) }
+    ensures places { result ≡ length (tables_of net.now) }
+    ensures count { result ≡ length (net_of file.now net.now).tables }
+    ensures few { result ≤ 16 }
 {
-    wide(net[1])
+    net[1] as usize
 }
 
-// The address bits of table k, and the width of its words; past the last 1, as the definitions say.
-pub fn address_bits(file: &[u8], net: &[u16], k: usize) -> u8
+// The address bits of table k, and the width of its words; past the last 1, as the definitions say. (Two functions: one of both would have a clause by cases.)
+fn address_bits(file: &[u8], net: &[u16], k: usize) -> u8
     requires { Circuit file.now net.now }
     ensures { result ≡ (get_or (net_of file.now net.now).tables k no_table).bits }
 {
     if k < table_count(file, net) {
-        file[wide(net[2 + k]) + 3]
+        file[net[2 + k] as usize + 3]
     } else {
         1
     }
 }
 
-pub fn word_width(file: &[u8], net: &[u16], k: usize) -> u8
+fn word_width(file: &[u8], net: &[u16], k: usize) -> u8
     requires { Circuit file.now net.now }
     ensures { result ≡ (get_or (net_of file.now net.now).tables k no_table).wide }
 {
     if k < table_count(file, net) {
-        file[wide(net[2 + k]) + 4]
+        file[net[2 + k] as usize + 4]
     } else {
         1
     }
 }
 
 // Where the field of table k stands in the file.
-pub fn table_place(file: &[u8], net: &[u16], k: usize) -> usize
-    requires { Circuit file.now net.now × (k < length (net_of file.now net.now).tables) }
-    ensures { TableAt file.now result × (table_in file.now result ≡ get_or (net_of file.now net.now).tables k no_table) }
+fn table_place(file: &[u8], net: &[u16], k: usize) -> usize
+    requires circuit { Circuit file.now net.now }
+    requires table { k < length (net_of file.now net.now).tables }
+    ensures stands { TableAt file.now result }
+    ensures table { table_in file.now result ≡ get_or (net_of file.now net.now).tables k no_table }
 {
-    wide(net[2 + k])
+    net[2 + k] as usize
 }
 
 // The word of table k at an address: there is one for every address.
-pub fn table_word(file: &[u8], net: &[u16], k: usize, a: usize) -> u16
-    requires { Circuit file.now net.now × (k < length (net_of file.now net.now).tables) × (a < 2 ^ (get_or (net_of file.now net.now).tables k no_table).bits) }
+fn table_word(file: &[u8], net: &[u16], k: usize, a: usize) -> u16
+    requires circuit { Circuit file.now net.now }
+    requires table { k < length (net_of file.now net.now).tables }
+    requires address { a < 2 ^ (get_or (net_of file.now net.now).tables k no_table).bits }
     ensures { result ≡ get_or (spelled (get_or (net_of file.now net.now).tables k no_table)) a 0 }
 {
     word_in(file, table_place(file, net, k), a)
@@ -241,7 +222,10 @@ pub fn table_word(file: &[u8], net: &[u16], k: usize, a: usize) -> u16
 
 // Puts node v after the v nodes that the circuit shows.
 pub fn push_row(net: &mut [u16], v: usize, row: Row)
-    requires { Formed net.old × (v ≡ length (nodes_of net.old)) × (v < 1024) × Fits row }
+    requires formed { Formed net.old }
+    requires place { v ≡ length (nodes_of net.old) }
+    requires few { v < 1024 }
+    requires fits { Fits row }
     ensures { Pushed net.old (row_node row) net.new }
 {
     let at = ROWS + ROW * v;

@@ -11,8 +11,12 @@ use words::word_at;
 // Tag 5: a fill word, then the first words. Where the word of an address stands: past the last of them it is the fill word. Addresses follow no pattern, so a
 // place is chosen and not a way to go.
 fn filled_place(file: &[u8], at: usize, a: usize) -> usize
-    requires { (length file.now ≤ 46000) × TableAt file.now at × (a < 2 ^ (table_in file.now at).bits) × (tag_at file.now at ≡ 5) }
-    ensures { (word file.now result ≡ get_or (spelled (table_in file.now at)) a 0) × (result + 1 < length file.now) }
+    requires short { length file.now ≤ 46000 }
+    requires stands { TableAt file.now at }
+    requires address { a < 2 ^ (table_in file.now at).bits }
+    requires tag { tag_at file.now at ≡ 5 }
+    ensures word { word file.now result ≡ get_or (spelled (table_in file.now at)) a 0 }
+    ensures inside { result + 1 < length file.now }
 {
     let stored = (word_at(file, at + 1) as usize - 4) / 2;
     if stored <= a { at + 5 } else { at + 7 + 2 * a }
@@ -20,7 +24,9 @@ fn filled_place(file: &[u8], at: usize, a: usize) -> usize
 
 // The word of the table whose field stands at an offset. Tag 2 has one for each address.
 pub fn word_in(file: &[u8], at: usize, a: usize) -> u16
-    requires { (length file.now ≤ 46000) × TableAt file.now at × (a < 2 ^ (table_in file.now at).bits) }
+    requires short { length file.now ≤ 46000 }
+    requires stands { TableAt file.now at }
+    requires address { a < 2 ^ (table_in file.now at).bits }
     ensures { result ≡ get_or (spelled (table_in file.now at)) a 0 }
 {
     if file[at] == 2 {

@@ -10,12 +10,11 @@ use Rattle.lists.proofs.ListsLaws.{All}
 use Rattle.lists.specs.Paths.{pick}
 use Rattle.lists.proofs.Paths.{off_lt}
 use Rattle.netlist.specs.declared.Node.{Node}
-use Rattle.netlist.specs.declared.NodeRead.{NodeRead}
 use Rattle.netlist.specs.Net.{Table, Net}
 use Rattle.netlist.specs.Checks.{TableFits}
 use Rattle.netlist.specs.Field.{field_end, field}
 use Rattle.netlist.specs.TableField.{table_read, body_tag, table_content}
-use Rattle.netlist.specs.NodeField.{node_read, node_content}
+use Rattle.netlist.specs.NodeField.{node_read, node_content, NodeRead}
 use Rattle.netlist.specs.Scan.{TableField, NodeField, EndField, walk, after_head, scan}
 use Rattle.netlist.proofs.ScanLaws.{walk_step}
 use Rattle.netlist.specs.File.{table_in, node_in, net_in, Decoded, good, decoded, decode, table_bytes, node_bytes, encode}

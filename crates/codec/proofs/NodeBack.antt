@@ -1,5 +1,5 @@
 -- A node's content reads back as the node. Assumes nothing.
-use Rattle.std.specs.Prelude.{◌≡◌, true, List, [], ◌∷◌, ◌++◌, ℕ, zero, suc, ◌+◌, ◌*◌, ◌/◌, ◌%◌, ◌^◌, ◌<◌, ◌≤◌, length, get_or, take, ltb}
+use Rattle.std.specs.Prelude.{◌≡◌, true, List, [], ◌∷◌, ◌++◌, ℕ, zero, suc, ◌+◌, ◌*◌, ◌/◌, ◌%◌, ◌^◌, ◌<◌, ◌≤◌, length, get_or, take, ltb, Some, None}
 use Rattle.std.proofs.Math.Path.{refl, ap, sym}
 use Rattle.std.proofs.Common.{◌∙◌, append_assoc, arith, get_or-take, length-take-le, ext_get_or}
 use Rattle.lists.specs.Paths.{pick}
@@ -10,8 +10,6 @@ use Rattle.words.specs.declared.Op.TheVariants.{Constant, Not, And, Or, Xor, Add
 use Rattle.netlist.specs.declared.Element.{Element}
 use Rattle.netlist.specs.declared.Element.TheVariants.{Input, Output, Register, Async, Clocked, Gate}
 use Rattle.netlist.specs.declared.Node.{Node}
-use Rattle.netlist.specs.declared.OpRead.TheVariants as opread
-use Rattle.netlist.specs.declared.ElementRead.TheVariants as elementread
 use Rattle.netlist.specs.Net.{operands}
 use Rattle.netlist.specs.Checks.{OpFits, Fits}
 use Rattle.netlist.specs.NodeField.{op_read, gate_read, kind_read, element_read, first_source, sources_from, node_with, node_read, kind_of, before_sources, after_sources, source_bytes, node_content}
@@ -29,9 +27,9 @@ fits-back : {A : Type 0} (f : ℕ → A) (bad : A) (v w : ℕ) → v < 2 ^ w →
 fits-back f bad v w h = rw (word_back v) (sym (on_lt _ _ _ _ h refl))
 
 module _ (w a b c : ℕ) where
-  op_back : (o : Op) → OpFits o w → op_read (written (Gate o) w (a ∷ b ∷ c ∷ [])) ≡ opread.Found o
+  op_back : (o : Op) → OpFits o w → op_read (written (Gate o) w (a ∷ b ∷ c ∷ [])) ≡ Some o
   unfolding op_read pick
-  op_back (Constant v) h = fits-back (λ k. opread.Found (Constant k)) opread.Bad v w h
+  op_back (Constant v) h = fits-back (λ k. Some (Constant k)) None v w h
   op_back Not h = refl
   op_back And h = refl
   op_back Or h = refl
@@ -44,16 +42,16 @@ module _ (w a b c : ℕ) where
   op_back (Part b) h = refl
   op_back Join h = refl
 
-  kind_back : (e : Element) → Fits e w → kind_read (kind_of e) (written e w (a ∷ b ∷ c ∷ [])) ≡ elementread.Found e
+  kind_back : (e : Element) → Fits e w → kind_read (kind_of e) (written e w (a ∷ b ∷ c ∷ [])) ≡ Some e
   unfolding kind_read pick
   kind_back Input h = refl
   kind_back Output h = refl
-  kind_back (Register r) h = fits-back (λ k. elementread.Found (Register k)) elementread.Bad r w h
+  kind_back (Register r) h = fits-back (λ k. Some (Register k)) None r w h
   kind_back (Async m) h = refl
-  kind_back (Clocked m r) h = fits-back (λ k. elementread.Found (Clocked m k)) elementread.Bad r w h
+  kind_back (Clocked m r) h = fits-back (λ k. Some (Clocked m k)) None r w h
   kind_back (Gate o) h = ap gate_read (op_back o h)
 
-  element_back : (e : Element) → 1 ≤ w → w ≤ 16 → Fits e w → element_read (written e w (a ∷ b ∷ c ∷ [])) ≡ elementread.Found e
+  element_back : (e : Element) → 1 ≤ w → w ≤ 16 → Fits e w → element_read (written e w (a ∷ b ∷ c ∷ [])) ≡ Some e
   unfolding element_read
   element_back e low high h =
       sym
@@ -102,7 +100,7 @@ module _ (e : Element) (w : ℕ) (l : List ℕ) where
   sources_found : length l ≡ 3 → ((p : ℕ) → operands e ≤ p → get_or l p 0 ≡ 0) → sources_from (written e w l) (first_source e) (operands e) ≡ l
   sources_found three unread = rw (← first_is e w) (sources-back (kind_of e ∷ w ∷ before_sources e) l (after_sources e) (operands e) three (few_sources e) unread)
 
-  element_found : length l ≡ 3 → 1 ≤ w → w ≤ 16 → Fits e w → element_read (written e w l) ≡ elementread.Found e
+  element_found : length l ≡ 3 → 1 ≤ w → w ≤ 16 → Fits e w → element_read (written e w l) ≡ Some e
   element_found three low high h = rw (spelt l three) (element_back w _ _ _ e low high h)
 
 pub node_back : (x : Node) → NodeFits x → node_read (node_content x) ≡ record { good = true; node = x }

@@ -1,5 +1,6 @@
 -- A well made node content is the content of the node that is read from it, and that node is within the format's limits. Assumes nothing.
-use Rattle.std.specs.Prelude.{◌≡◌, true, length, take, drop}
+use Rattle.words.specs.declared.Op.{Op}
+use Rattle.std.specs.Prelude.{◌≡◌, true, length, take, drop, Option, Some, None}
 use Rattle.std.proofs.Math.Path.{refl, ap, subst}
 use Rattle.std.proofs.Common.{sym, ◌∙◌, add-zero, arith, drop_of_length-le, drop-cons}
 use Rattle.std.proofs.lemmas.Bool.{false≢true}
@@ -13,10 +14,6 @@ use Rattle.words.specs.Words.{word}
 use Rattle.netlist.specs.declared.Element.{Element}
 use Rattle.netlist.specs.declared.Element.TheVariants.{Input, Output, Register, Async, Clocked, Gate}
 use Rattle.netlist.specs.declared.Node.{Node}
-use Rattle.netlist.specs.declared.OpRead.{OpRead}
-use Rattle.netlist.specs.declared.OpRead.TheVariants as opread
-use Rattle.netlist.specs.declared.ElementRead.{ElementRead}
-use Rattle.netlist.specs.declared.ElementRead.TheVariants as elementread
 use Rattle.netlist.specs.Net.{rom, operands, table_of}
 use Rattle.netlist.specs.Checks.{Fits}
 use Rattle.netlist.specs.NodeField.{op_read, gate_read, kind_read, element_read, first_source, sources_from, node_with, node_read, kind_of, before_sources, after_sources, source_bytes, node_content}
@@ -37,14 +34,14 @@ pub record Came (c : List ℕ) (e : Element) : Type 0 where
   pub after : after_sources e ≡ drop (first_source e + 2 * operands e) c
   pub fits : Fits e (get_or c 1 0)
 
-pub data Told (c : List ℕ) : ElementRead → Type 0 where
-  bad : Told c elementread.Bad
-  came : {e : Element} → Came c e → Told c (elementread.Found e)
+pub data Told (c : List ℕ) : Option Element → Type 0 where
+  bad : Told c None
+  came : {e : Element} → Came c e → Told c (Some e)
 
 module _ (c : List ℕ) (b : Bytes c) where
-  gate_came : get_or c 0 0 ≡ 5 → (r : OpRead) → OpTold c r → Told c (gate_read r)
-  gate_came k opread.Bad refused = bad
-  gate_came k (opread.Found o) (told t) =
+  gate_came : get_or c 0 0 ≡ 5 → (r : Option Op) → OpTold c r → Told c (gate_read r)
+  gate_came k None refused = bad
+  gate_came k (Some o) (told t) =
       came
       (record {
         kind = sym k;
@@ -95,7 +92,7 @@ module _ (c : List ℕ) (b : Bytes c) where
       n : ℕ
       n = length c
 
-      P : ElementRead → Type 0
+      P : Option Element → Type 0
       P = Told c
 
   element_came : Told c (element_read c)
@@ -162,13 +159,13 @@ module _ (c : List ℕ) (b : Bytes c) (e : Element) (t : Came c e) where
       }
 
 module _ (c : List ℕ) (b : Bytes c) where
-  fits_came : (r : ElementRead) → Told c r → (node_with c r).good ≡ true → 1 ≤ get_or c 1 0 → get_or c 1 0 ≤ 16 → NodeFits (node_with c r).node
-  fits_came elementread.Bad bad g low high = absurd (false≢true g)
-  fits_came (elementread.Found e) (came t) g low high = record { width_low = low; width_high = high; word_fits = t.fits; recorded = recorded_came c b e t }
+  fits_came : (r : Option Element) → Told c r → (node_with c r).good ≡ true → 1 ≤ get_or c 1 0 → get_or c 1 0 ≤ 16 → NodeFits (node_with c r).node
+  fits_came None bad g low high = absurd (false≢true g)
+  fits_came (Some e) (came t) g low high = record { width_low = low; width_high = high; word_fits = t.fits; recorded = recorded_came c b e t }
 
-  same_came : (r : ElementRead) → Told c r → (node_with c r).good ≡ true → 2 ≤ length c → node_content (node_with c r).node ≡ c
-  same_came elementread.Bad bad g long = absurd (false≢true g)
-  same_came (elementread.Found e) (came t) g long = content_came c b e t long
+  same_came : (r : Option Element) → Told c r → (node_with c r).good ≡ true → 2 ≤ length c → node_content (node_with c r).node ≡ c
+  same_came None bad g long = absurd (false≢true g)
+  same_came (Some e) (came t) g long = content_came c b e t long
 
   -- THE THEOREM
   pub node_as_it_came : (node_read c).good ≡ true → node_content (node_read c).node ≡ c

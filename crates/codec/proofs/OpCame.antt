@@ -1,5 +1,5 @@
 -- The operation of a gate's content, as it came. Assumes nothing.
-use Rattle.std.specs.Prelude.{◌≡◌, refl, Bool, true, ◌&&◌, ◌||◌, List, length, drop, eqb}
+use Rattle.std.specs.Prelude.{◌≡◌, refl, Bool, true, ◌&&◌, ◌||◌, List, length, drop, eqb, Option, Some, None}
 use Rattle.std.proofs.Common.{ap, sym, ◌∙◌, arith, drop_of_length-le, ne_eqb}
 use Prim.Native.Nat.{ℕ, ◌+◌, ◌*◌, ◌^◌, ◌≤◌, ◌<◌}
 use Rattle.std.proofs.Math.ListN.{get_or}
@@ -11,8 +11,6 @@ use Rattle.words.specs.Words.{word, operand_counts}
 use Rattle.words.specs.Gates.{operands_of}
 use Rattle.words.specs.declared.Op.{Op}
 use Rattle.words.specs.declared.Op.TheVariants.{Constant, Not, And, Or, Xor, Add, Subtract, Equal, Less, Choose, Part, Join}
-use Rattle.netlist.specs.declared.OpRead.{OpRead}
-use Rattle.netlist.specs.declared.OpRead.TheVariants.{Bad, Found}
 use Rattle.netlist.specs.Checks.{OpFits}
 use Rattle.netlist.specs.NodeField.{extra, gate_length, plain_op, op_read, op_number, op_extra}
 use Rattle.codec.specs.Bytes.{Bytes}
@@ -24,9 +22,9 @@ pub record OpCame (c : List ℕ) (o : Op) : Type 0 where
   pub after : op_extra o ≡ drop (3 + 2 * operands_of o) c
   pub fits : OpFits o (get_or c 1 0)
 
-pub data OpTold (c : List ℕ) : OpRead → Type 0 where
-  refused : OpTold c Bad
-  told : {o : Op} → OpCame c o → OpTold c (Found o)
+pub data OpTold (c : List ℕ) : Option Op → Type 0 where
+  refused : OpTold c None
+  told : {o : Op} → OpCame c o → OpTold c (Some o)
 
 -- ---- the operations that are their number alone
 
@@ -115,5 +113,5 @@ module _ (c : List ℕ) (b : Bytes c) where
       k : ℕ
       k = get_or c 2 0
 
-      P : OpRead → Type 0
+      P : Option Op → Type 0
       P = OpTold c

@@ -5,58 +5,58 @@ pub mod rings;
 
 ghost use Rattle.std.specs.Prelude.{◌≡◌, ◌<◌, ◌≤◌, length};
 ghost use Rattle.lists.specs.Lists.{lowest};
-ghost use Rattle.netlist.specs.Net.{size, in_clock, Sourced};
+ghost use Rattle.netlist.specs.Net.{Net, size, in_clock, Sourced};
 ghost use Rattle.netlist.specs.Reach.{reaches_itself};
-ghost use Rattle.circuit.specs.Circuit.{net_of, order_of, Circuit};
 ghost use Rattle.circuit.specs.Order.{Complete};
 ghost use Rattle.order.specs.Order.{class_of};
 ghost use Rattle.cycles.specs.Spread.{touches, Reached, ReachedOnce, ReachedPass};
 
-use areas::{flag_at, put_flag, read_at};
-use circuit::{node_count, source_of, wide};
+use areas::{at_or, put, read_at};
+use circuit::{Draft, Netlist};
 use order::{Steps, count_at, order_nodes};
 use proposal::{AREA, propose};
 
+// A mark for each node that a netlist can have.
+const MARKS: usize = 1024;
+
 // Whether node u reads the start s or a marked node.
-fn is_touched(file: &[u8], net: &[u16], steps: Steps, s: usize, u: usize, marks: &[u8]) -> bool
-    requires circuit { Circuit file.now net.now }
-    requires asked { let N = net_of file.now net.now in u < size N }
-    ensures { let N = net_of file.now net.now in result ≡ touches (class_of steps) N s marks.now u }
+fn is_touched(net: &Netlist, steps: Steps, s: usize, u: usize, marks: &[u8; MARKS]) -> bool
+    requires { u < size net.now.net }
+    ensures { result ≡ touches (class_of steps) net.now.net s marks.now u }
 {
-    let n = count_at(file, net, steps, u);
-    let mut p: usize = 0;
-    while p < n {
-        let v = source_of(file, net, u, p);
+    let n = count_at(net, steps, u);
+    for p in 0..n {
+        let v = net.source(u, p);
         if v == s {
             return true;
         }
-        if 0 < flag_at(marks, v) {
+        if 0 < at_or(marks, v, 0) {
             return true;
         }
-        p = p + 1;
     }
     false
 }
 
 // Marks u where it reads the start or a marked node; gives the number of marks.
 fn touch(
-    file: &[u8],
-    net: &[u16],
+    net: &Netlist,
     steps: Steps,
     s: usize,
     u: usize,
-    marks: &mut [u8],
+    marks: &mut [u8; MARKS],
     k: usize,
 ) -> usize
-    requires circuit { Circuit file.now net.now }
-    requires asked { let N = net_of file.now net.now in Sourced N × (u < size N) × Reached (class_of steps) N s marks.old k }
-    ensures { let N = net_of file.now net.now in ReachedOnce (class_of steps) N s marks.old marks.new k result u }
+    requires sourced { Sourced net.now.net }
+    requires node { u < size net.now.net }
+    requires reached { Reached (class_of steps) net.now.net s marks.old k }
+    ensures { ReachedOnce (class_of steps) net.now.net s marks.old marks.new k result u }
 {
-    if 0 < flag_at(marks, u) {
+    net.bounds();
+    if 0 < at_or(marks, u, 0) {
         return k;
     }
-    if is_touched(file, net, steps, s, u, marks) {
-        put_flag(marks, u, 1);
+    if is_touched(net, steps, s, u, marks) {
+        put(marks, u, 1);
         return k + 1;
     }
     k
@@ -64,80 +64,80 @@ fn touch(
 
 // The same where u is a node.
 fn touch_if(
-    file: &[u8],
-    net: &[u16],
+    net: &Netlist,
     steps: Steps,
     s: usize,
     u: usize,
-    marks: &mut [u8],
+    marks: &mut [u8; MARKS],
     k: usize,
 ) -> usize
-    requires circuit { Circuit file.now net.now }
-    requires asked { let N = net_of file.now net.now in Sourced N × Reached (class_of steps) N s marks.old k }
-    ensures { let N = net_of file.now net.now in (k ≤ result) × Reached (class_of steps) N s marks.new result }
+    requires sourced { Sourced net.now.net }
+    requires reached { Reached (class_of steps) net.now.net s marks.old k }
+    ensures more { k ≤ result }
+    ensures reached { Reached (class_of steps) net.now.net s marks.new result }
 {
-    if u < node_count(file, net) {
-        touch(file, net, steps, s, u, marks, k)
+    if u < net.node_count() {
+        touch(net, steps, s, u, marks, k)
     } else {
         k
     }
 }
 
 // One round from the start s over all nodes.
-fn spread(file: &[u8], net: &[u16], steps: Steps, s: usize, marks: &mut [u8], start: usize) -> usize
-    requires circuit { Circuit file.now net.now }
-    requires asked { let N = net_of file.now net.now in Sourced N × Reached (class_of steps) N s marks.old start }
-    ensures { let N = net_of file.now net.now in ReachedPass (class_of steps) N s marks.old marks.new start result (size N) }
+fn spread(net: &Netlist, steps: Steps, s: usize, marks: &mut [u8; MARKS], start: usize) -> usize
+    requires sourced { Sourced net.now.net }
+    requires reached { Reached (class_of steps) net.now.net s marks.old start }
+    ensures { let N = net.now.net in ReachedPass (class_of steps) N s marks.old marks.new start result (size N) }
 {
-    let n = node_count(file, net);
+    let n = net.node_count();
     let mut k = start;
-    let mut u: usize = 0;
-    while u < n {
-        k = touch(file, net, steps, s, u, marks, k);
-        u = u + 1;
+    for u in 0..n {
+        k = touch(net, steps, s, u, marks, k);
     }
     k
 }
 
 // One round from the start s over the nodes of a hint, in its order. The hint has sources before readers, so that few rounds are enough; nobody trusts it.
 fn spread_by(
-    file: &[u8],
-    net: &[u16],
+    net: &Netlist,
     steps: Steps,
     s: usize,
     hint: &[u16],
-    marks: &mut [u8],
+    marks: &mut [u8; MARKS],
     start: usize,
 ) -> usize
-    requires circuit { Circuit file.now net.now }
-    requires asked { let N = net_of file.now net.now in Sourced N × Reached (class_of steps) N s marks.old start × (1024 ≤ length hint.now) }
-    ensures { let N = net_of file.now net.now in (start ≤ result) × Reached (class_of steps) N s marks.new result }
+    requires sourced { Sourced net.now.net }
+    requires reached { Reached (class_of steps) net.now.net s marks.old start }
+    requires hint { 1024 ≤ length hint.now }
+    ensures start { start ≤ result }
+    ensures reached { Reached (class_of steps) net.now.net s marks.new result }
 {
-    let n = node_count(file, net);
+    let n = net.node_count();
     let mut k = start;
-    let mut i: usize = 0;
-    while i < n {
-        k = touch_if(file, net, steps, s, wide(read_at(hint, i)), marks, k);
-        i = i + 1;
+    for i in 0..n {
+        k = touch_if(net, steps, s, read_at(hint, i) as usize, marks, k);
     }
     k
 }
 
 // The search: from each node in turn rounds spread its mark until it comes back, which ends the search, or a round over all nodes changes nothing.
-fn lowest_on_cycle(file: &[u8], net: &[u16], steps: Steps, hint: &[u16]) -> usize
-    requires circuit { Circuit file.now net.now }
-    requires asked { let N = net_of file.now net.now in Sourced N × (1024 ≤ length hint.now) }
-    ensures { let N = net_of file.now net.now in result ≡ lowest (size N) (reaches_itself (class_of steps) N) }
+// (A `loop`: how many rounds there are, their marks tell.)
+fn lowest_on_cycle(net: &Netlist, steps: Steps, hint: &[u16]) -> usize
+    requires sourced { Sourced net.now.net }
+    requires hint { 1024 ≤ length hint.now }
+    ensures { let N = net.now.net in result ≡ lowest (size N) (reaches_itself (class_of steps) N) }
 {
-    let n = node_count(file, net);
-    let mut s: usize = 0;
-    'search: while s < n {
-        let mut marks = [0u8; 1024];
+    net.bounds();
+    let n = net.node_count();
+    let mut found = n;
+    'search: for s in 0..n {
+        let mut marks = [0u8; MARKS];
         let mut marked: usize = 0;
         loop {
-            let near = spread_by(file, net, steps, s, hint, &mut marks, marked);
-            let more = spread(file, net, steps, s, &mut marks, near);
-            if 0 < flag_at(&marks, s) {
+            let near = spread_by(net, steps, s, hint, &mut marks, marked);
+            let more = spread(net, steps, s, &mut marks, near);
+            if 0 < at_or(&marks, s, 0) {
+                found = s;
                 break 'search;
             }
             if more == near {
@@ -145,23 +145,24 @@ fn lowest_on_cycle(file: &[u8], net: &[u16], steps: Steps, hint: &[u16]) -> usiz
             }
             marked = more;
         }
-        s = s + 1;
     }
-    s
+    found
 }
 
 // Check 9: the lowest node that reaches itself within the clock, or the number of nodes: then the circuit's order holds all nodes, each after what it reads.
-pub fn lowest_cycle(file: &[u8], net: &mut [u16]) -> usize
-    requires circuit { Circuit file.now net.old }
-    requires asked { let N = net_of file.now net.old in Sourced N }
-    ensures { let N = net_of file.now net.old in (net_of file.now net.new ≡ N) × Circuit file.now net.new
-        × (result ≡ lowest (size N) (reaches_itself in_clock N)) × (result ≡ size N → Complete in_clock N (order_of net.new)) }
+pub fn lowest_cycle(draft: &mut Draft) -> usize
+    requires { Sourced draft.old.net }
+    ensures file { draft.new.file ≡ draft.old.file }
+    ensures net { draft.new.net ≡ draft.old.net }
+    ensures lowest { let N = draft.old.net in result ≡ lowest (size N) (reaches_itself in_clock N) }
+    ensures complete { let N = draft.old.net in result ≡ size N → Complete in_clock N draft.new.order }
 {
-    let placed = order_nodes(file, net);
-    if placed == node_count(file, net) {
+    let placed = order_nodes(draft);
+    if placed == draft.node_count() {
         return placed;
     }
     let mut area = [0u16; AREA];
-    propose(file, net, Steps::InClock, &mut area);
-    lowest_on_cycle(file, net, Steps::InClock, &area)
+    let net = draft.shown();
+    propose(&net, Steps::InClock, &mut area);
+    lowest_on_cycle(&net, Steps::InClock, &area)
 }

@@ -1,36 +1,30 @@
 // Check 10 by ranks: where a rank falls along each step into a register there is no ring. The ranks are proposed, not trusted: they are looked over once.
 ghost use Rattle.std.specs.Prelude.{◌≡◌, true, ◌≤◌, ◌<◌, length, get_or};
 ghost use Rattle.lists.specs.Lists.{lowest};
-ghost use Rattle.netlist.specs.Net.{size, in_registers, Sourced, RankedIn};
+ghost use Rattle.netlist.specs.Net.{Net, size, in_registers, Sourced, RankedIn};
 ghost use Rattle.netlist.specs.Reach.{reaches_itself};
-ghost use Rattle.circuit.specs.Circuit.{Circuit, net_of};
 ghost use Rattle.cycles.specs.Falls.{Falls};
 
 use super::lowest_on_cycle;
-use areas::{number_at, put_number, read_at, write_at};
-use circuit::{node_count, register, source_of, wide};
+use areas::{at_or, put, read_at, write_at};
+use circuit::Netlist;
 use order::Steps;
 use proposal::{AREA, propose};
 
-// 1 where v is a register, 0 where it is another node or none.
-fn register_at(file: &[u8], net: &[u16], v: usize) -> usize
-    requires { Circuit file.now net.now }
-    ensures { result ≤ 1 }
-{
-    if v < node_count(file, net) {
-        register(file, net, v)
-    } else {
-        0
-    }
+// A rank for each node that a netlist can have.
+const RANKS: usize = 1024;
+
+// Whether v is a register.
+fn register_at(net: &Netlist, v: usize) -> bool {
+    v < net.node_count() && net.is_register(v)
 }
 
 // What v reads first, 0 where it is no node.
-fn source_at(file: &[u8], net: &[u16], v: usize) -> usize
-    requires { Circuit file.now net.now }
+fn source_at(net: &Netlist, v: usize) -> usize
     ensures { result ≤ 65535 }
 {
-    if v < node_count(file, net) {
-        source_of(file, net, v, 0)
+    if v < net.node_count() {
+        net.source(v, 0)
     } else {
         0
     }
@@ -44,97 +38,87 @@ pub struct Chain {
 }
 
 // The registers back from a start up to one that has a rank; each is marked with the highest rank, so that a ring ends too.
-fn mark_chain(file: &[u8], net: &[u16], start: usize, ranks: &mut [u16]) -> Chain
-    requires { Circuit file.now net.now }
+fn mark_chain(net: &Netlist, start: usize, ranks: &mut [u16; RANKS]) -> Chain
     ensures { result.length ≤ 1024 }
 {
     let mut v = start;
-    let mut length: usize = 0;
-    while length < 1024 {
-        if register_at(file, net, v) == 0 {
+    for length in 0..RANKS {
+        if !register_at(net, v) {
             return Chain { length, base: 0 };
         }
-        let rank = wide(number_at(ranks, v));
+        let rank = at_or(ranks, v, 0) as usize;
         if 0 < rank {
             return Chain { length, base: rank };
         }
-        put_number(ranks, v, 65535);
-        v = source_at(file, net, v);
-        length = length + 1;
+        put(ranks, v, 65535);
+        v = source_at(net, v);
     }
-    Chain { length, base: 0 }
+    Chain {
+        length: RANKS,
+        base: 0,
+    }
 }
 
 // Gives the registers of a chain their ranks, from the start down; those that lead to a ring keep the mark.
-fn rank_chain(file: &[u8], net: &[u16], start: usize, chain: Chain, ranks: &mut [u16])
-    requires { Circuit file.now net.now × (chain.length ≤ 1024) }
+fn rank_chain(net: &Netlist, start: usize, chain: Chain, ranks: &mut [u16; RANKS])
+    requires { chain.length ≤ 1024 }
 {
-    let base = chain.base;
-    let mut left = chain.length;
-    if 64511 < base {
-        left = 0;
+    if 64511 < chain.base {
+        return;
     }
     let mut v = start;
-    while 0 < left {
-        put_number(ranks, v, (base + left) as u16);
-        v = source_at(file, net, v);
-        left = left - 1;
+    for left in (0..chain.length).rev() {
+        put(ranks, v, (chain.base + left + 1) as u16);
+        v = source_at(net, v);
     }
 }
 
 // Ranks register v, where it has no rank from a chain before, and the registers back from it.
-fn rank_register(file: &[u8], net: &[u16], v: usize, ranks: &mut [u16])
-    requires { Circuit file.now net.now × (v < length ranks.old) }
+fn rank_register(net: &Netlist, v: usize, ranks: &mut [u16; RANKS])
+    requires { v < 1024 }
 {
-    if register_at(file, net, source_at(file, net, v)) == 0 {
+    if !register_at(net, source_at(net, v)) {
         write_at(ranks, v, 1);
         return;
     }
     if read_at(ranks, v) == 0 {
-        let chain = mark_chain(file, net, v, ranks);
-        rank_chain(file, net, v, chain, ranks);
+        let chain = mark_chain(net, v, ranks);
+        rank_chain(net, v, chain, ranks);
     }
 }
 
 // Ranks all registers.
-fn rank_registers(file: &[u8], net: &[u16], ranks: &mut [u16])
-    requires { Circuit file.now net.now × (length ranks.old ≡ 1024) }
-{
-    let n = node_count(file, net);
-    let mut v: usize = 0;
-    while v < n {
-        if register(file, net, v) == 1 {
-            rank_register(file, net, v, ranks);
+fn rank_registers(net: &Netlist, ranks: &mut [u16; RANKS]) {
+    let n = net.node_count();
+    for v in 0..n {
+        if net.is_register(v) {
+            rank_register(net, v, ranks);
         }
-        v = v + 1;
     }
 }
 
 // Whether v is no register, or has a higher rank than what it reads.
-fn falls(file: &[u8], net: &[u16], v: usize, ranks: &[u16]) -> bool
-    requires circuit { Circuit file.now net.now }
-    requires asked { let N = net_of file.now net.now in Sourced N × (v < size N) × (length ranks.now ≡ 1024) }
-    ensures { let N = net_of file.now net.now in (result ≡ true → Falls N (λ u. get_or ranks.now u 0) v) }
+fn falls(net: &Netlist, v: usize, ranks: &[u16; RANKS]) -> bool
+    requires sourced { Sourced net.now.net }
+    requires node { v < size net.now.net }
+    ensures { result ≡ true → Falls net.now.net (λ u. get_or ranks.now u 0) v }
 {
-    if register(file, net, v) == 1 {
-        read_at(ranks, source_of(file, net, v, 0)) < read_at(ranks, v)
+    net.bounds();
+    if net.is_register(v) {
+        read_at(ranks, net.source(v, 0)) < read_at(ranks, v)
     } else {
         true
     }
 }
 
 // Whether each register has a higher rank than what it reads.
-fn ranked(file: &[u8], net: &[u16], ranks: &[u16]) -> bool
-    requires circuit { Circuit file.now net.now }
-    requires asked { let N = net_of file.now net.now in Sourced N × (length ranks.now ≡ 1024) }
-    ensures { let N = net_of file.now net.now in (result ≡ true → RankedIn in_registers N (λ v. get_or ranks.now v 0)) }
+fn ranked(net: &Netlist, ranks: &[u16; RANKS]) -> bool
+    requires sourced { Sourced net.now.net }
+    ensures { result ≡ true → RankedIn in_registers net.now.net (λ v. get_or ranks.now v 0) }
 {
-    let n = node_count(file, net);
-    let mut v: usize = 0;
-    while v < n {
-        if falls(file, net, v, ranks) {
-            v = v + 1;
-        } else {
+    let n = net.node_count();
+    for v in 0..n {
+        if !falls(net, v, ranks) {
             return false;
         }
     }
@@ -142,17 +126,16 @@ fn ranked(file: &[u8], net: &[u16], ranks: &[u16]) -> bool
 }
 
 // The lowest register on a ring, or the number of nodes.
-pub fn lowest_ring(file: &[u8], net: &[u16]) -> usize
-    requires circuit { Circuit file.now net.now }
-    requires asked { let N = net_of file.now net.now in Sourced N }
-    ensures { let N = net_of file.now net.now in result ≡ lowest (size N) (reaches_itself in_registers N) }
+pub fn lowest_ring(net: &Netlist) -> usize
+    requires { Sourced net.now.net }
+    ensures { let N = net.now.net in result ≡ lowest (size N) (reaches_itself in_registers N) }
 {
-    let mut ranks = [0u16; 1024];
-    rank_registers(file, net, &mut ranks);
-    if ranked(file, net, &ranks) {
-        return node_count(file, net);
+    let mut ranks = [0u16; RANKS];
+    rank_registers(net, &mut ranks);
+    if ranked(net, &ranks) {
+        return net.node_count();
     }
     let mut area = [0u16; AREA];
-    propose(file, net, Steps::InRegisters, &mut area);
-    lowest_on_cycle(file, net, Steps::InRegisters, &area)
+    propose(net, Steps::InRegisters, &mut area);
+    lowest_on_cycle(net, Steps::InRegisters, &area)
 }

@@ -1,6 +1,6 @@
 -- What node v gives and what it holds next, by its code. Assumes nothing.
-use mathlib.Core.Path.{◌≡◌, sym, ap, ◌∙◌}
-use mathlib.Core.Bool.{true}
+use mathlib.Core.Path.{◌≡◌, ap, ◌∙◌}
+use mathlib.Core.Bool.{true, false}
 use mathlib.Core.List.{List}
 use Prim.Native.Nat.{ℕ, ◌^◌, ◌≤◌, ◌<◌}
 use native.Mathlib.Omega.{arith}
@@ -8,10 +8,12 @@ use lib.ListN.{get_or}
 use lib.Pow.{pow_mono}
 use Rattle.words.specs.declared.Op.{Op}
 use Rattle.gates.specs.Gate.{gate_word}
-use Rattle.netlist.specs.Net.{Net, size, element_at, width_at, source, is_memory, contents_at, Sourced}
+use Rattle.netlist.specs.Net.{Net, size, element_at, width_at, source, is_register, is_memory, contents_at, Sourced}
 use Rattle.netlist.specs.Checks.{WellFormed}
 use Rattle.netlist.specs.declared.Element.TheVariants.{Gate}
+use Rattle.lists.proofs.BelowLaws.{eqb-true, eqb_differ}
 use Rattle.circuit.specs.Code.{code_of}
+use Rattle.circuit.proofs.CodeLaws.{code_register}
 use Rattle.evaluate.specs.Rows.{row_test}
 use Rattle.evaluate.specs.Clock.{node_word, OperandsFit}
 use Rattle.evaluate.specs.Next.{next_word, WordsFit, holder_reads}
@@ -77,20 +79,23 @@ module _ {N : Net} {v w u x y z : ℕ} (g : Gathered N v w u x y z) (ws : List �
 
 -- ---- node v after it, which holds a word; x is the word that it reads
 
-module _ (N : Net) (ws : List ℕ) (v : ℕ) {c x u : ℕ} (k : c ≡ code_of (element_at N v)) (on : row_test State N v ≡ true) (e : x ≡ get_or ws u 0) (q : u ≡ source N v 0) where
+module _ (N : Net) (ws : List ℕ) (v : ℕ) {x u : ℕ} (on : row_test State N v ≡ true) (e : x ≡ get_or ws u 0) (q : u ≡ source N v 0) where
   reads : x ≡ get_or ws (source N v 0) 0
   reads = e ∙ ap (λ (j : ℕ). get_or ws j 0) q
 
-  pub next_register : c ≡ 2 → x ≡ next_word N ws v
-  next_register h = reads ∙ register_holds (contents_at N v) (λ p. get_or ws (source N v p) 0) (element_at N v) on (sym k ∙ h)
+  pub next_address : WellFormed N → v < size N → WordsFit N ws → x < 2 ^ width_at N (source N v 0)
+  unfolding Sourced
+  next_address wf l fit = rw reads (fit (source N v 0) (wf.sourced v 0 l (holder_reads (element_at N v) on)))
 
-  module _ (not : c ≡ 2 → ⊥) where
+  pub next_register : is_register (element_at N v) ≡ true → x ≡ next_word N ws v
+  next_register h = reads ∙ register_holds (contents_at N v) (λ p. get_or ws (source N v p) 0) (element_at N v) on (eqb-true (code_register (element_at N v) ∙ h))
+
+  module _ (not : is_register (element_at N v) ≡ false) where
     holds : (is_memory (element_at N v) ≡ true) × (get_or (contents_at N v) (get_or ws (source N v 0) 0) 0 ≡ next_word N ws v)
-    holds = rom_holds (contents_at N v) (λ p. get_or ws (source N v p) 0) (element_at N v) on (λ h. not (k ∙ h))
+    holds = rom_holds (contents_at N v) (λ p. get_or ws (source N v p) 0) (element_at N v) on (eqb_differ (code_register (element_at N v) ∙ not))
 
-    pub next_asks : WellFormed N → v < size N → WordsFit N ws → (is_memory (element_at N v) ≡ true) × (x < 2 ^ width_at N (source N v 0))
-    unfolding Sourced
-    next_asks wf l fit = (holds.0, rw reads (fit (source N v 0) (wf.sourced v 0 l (holder_reads (element_at N v) on))))
+    pub next_memory : is_memory (element_at N v) ≡ true
+    next_memory = holds.0
 
     pub next_rom : {r : ℕ} → r ≡ get_or (contents_at N v) x 0 → r ≡ next_word N ws v
     next_rom i = i ∙ ap (λ (j : ℕ). get_or (contents_at N v) j 0) reads ∙ holds.1

@@ -1,3 +1,3 @@
-pub mod RowCodes
+pub mod Counted
 pub mod ByCode
 pub mod Rows

@@ -1,6 +1,6 @@
 -- A row's members are loaded one after the other. Assumes nothing.
 use mathlib.Core.Path.{◌≡◌, sym, subst, ◌∙◌}
-use mathlib.Core.Bool.{Bool, true, false, false≢true}
+use mathlib.Core.Bool.{Bool, true, false}
 use mathlib.Core.List.{List}
 use Prim.Native.Nat.{ℕ, ◌+◌, ◌*◌, ◌^◌, ◌≤◌, ◌<◌}
 use native.Mathlib.Omega.{arith}
@@ -27,13 +27,6 @@ pub loads_more : (N : Net) {members b before after : List ℕ} {i v x : ℕ} →
     → x < 2 ^ width_at N v → v < length after → Loads N members b before (set after v x) (i + 1)
 loads_more N {b = b} t l at is f r row e = load_take (row_test row N) (λ u. width_at N u) (size N) b (member (row_test row N) (size N) e l at) is (t row e) f r
 
--- what loading a row answers, and what it then leaves
-abbrev Outcome : Row → Net → List ℕ → List ℕ → List ℕ → Bool → Type 0
-Outcome row N b before after r = (r ≡ fitting_bytes (row_widths row N) b) × (r ≡ true → Loaded row N b before after)
-
-refused : {row : Row} {N : Net} {b before after : List ℕ} → fitting_bytes (row_widths row N) b ≡ false → Outcome row N b before after false
-refused f = (sym f, λ y. absurd (false≢true y))
-
 module _ (row : Row) (N : Net) {members : List ℕ} (e : members ≡ row_members row N) where
   abbrev q : ℕ → Bool
   q = row_test row N
@@ -47,19 +40,22 @@ module _ (row : Row) (N : Net) {members : List ℕ} (e : members ≡ row_members
   pub is_node : {i v : ℕ} → i < length members → v ≡ get_or members i 0 → v < size N
   is_node l at = (member q (size N) e l at).low
 
-  pub other_length : {b before after : List ℕ} → (length b ≡ 2 * length members → ⊥) → Outcome row N b before after false
-  other_length {b} d = refused (load_other q w (size N) b (λ h. d (omega (arith, count))))
+  pub other_length : (b : List ℕ) → (length b ≡ 2 * length members → ⊥) → false ≡ fitting_bytes (row_widths row N) b
+  other_length b d = sym (load_other q w (size N) b (λ h. d (omega (arith, count))))
 
   module _ (b : List ℕ) (h : length b ≡ 2 * length members) where
     whole : length b ≡ 2 * count_below q (size N)
     whole = omega (arith, count)
 
-    pub too_wide : {before after : List ℕ} {i v x : ℕ} → i < length members → v ≡ get_or members i 0 → x ≡ word b (2 * i) → 2 ^ width_at N v ≤ x → Outcome row N b before after false
-    too_wide l at is f = refused (load_wide q w (size N) b (member q (size N) e l at) is whole f)
+    pub too_wide : {i v x : ℕ} → i < length members → v ≡ get_or members i 0 → x ≡ word b (2 * i) → 2 ^ width_at N v ≤ x → false ≡ fitting_bytes (row_widths row N) b
+    too_wide l at is f = sym (load_wide q w (size N) b (member q (size N) e l at) is whole f)
 
-    pub loaded : {before after : List ℕ} {i : ℕ} → length after ≡ length before → i ≡ length members → Loads N members b before after i → Outcome row N b before after true
-    loaded {before} {after} {i} kept all f =
-        (sym (load_fits q w (size N) b whole t), λ y. record { kept = kept; words = load_words q w (size N) b whole t; fit = λ v l o. t.fit v o (count_below-lt q v (size N) o l); others = t.others })
-      where
-        t : Loading q w b before after (count_below q (size N))
-        t = subst (Loading q w b before after) (all ∙ count) (f row e)
+    module _ {before after : List ℕ} {i : ℕ} (f : Loads N members b before after i) (all : i ≡ length members) where
+      t : Loading q w b before after (count_below q (size N))
+      t = subst (Loading q w b before after) (all ∙ count) (f row e)
+
+      pub all_fit : true ≡ fitting_bytes (row_widths row N) b
+      all_fit = sym (load_fits q w (size N) b whole t)
+
+      pub loaded : length after ≡ length before → Loaded row N b before after
+      loaded kept = record { kept = kept; words = load_words q w (size N) b whole t; fit = λ v l o. t.fit v o (count_below-lt q v (size N) o l); others = t.others }

@@ -1,5 +1,5 @@
 -- Where a node's word of a clock stands already at an earlier one: further back on its wire. Assumes nothing.
-use Rattle.std.specs.Prelude.{◌≡◌, true, ℕ, suc, ◌+◌, ◌<◌}
+use Rattle.std.specs.Prelude.{◌≡◌, true, ℕ, suc, ◌+◌, ◌<◌, Option, IfSome}
 use Rattle.std.proofs.Math.Path.{ap}
 use Rattle.std.proofs.Common.{◌∙◌, ⊎_elim, zero-add}
 use mathlib.Core.List.{[]}
@@ -13,6 +13,7 @@ use Rattle.retiming.specs.Rewrite.{root, passed}
 use Rattle.retiming.specs.Wires.{Rooted}
 use Rattle.retiming.proofs.Wires.{ringless_rooted, root_within, wire_next, wire_none, behind, register_after, delay}
 use Rattle.first_clocks.specs.ZeroRun.{behaves}
+use Rattle.first_clocks.specs.declared.holders.Held.{Held}
 
 -- node u stands so many registers back from v on its wire, and had the words of v as many clocks before
 pub record Holder (N : Net) (v back u : ℕ) : Type 0 where
@@ -20,9 +21,9 @@ pub record Holder (N : Net) (v back u : ℕ) : Type 0 where
   pub along : passed N v ≡ back + passed N u
   pub same : (t : ℕ) → zero_word N (back + t) v ≡ zero_word N t u
 
--- of a number that may be no node's
-abbrev pub Remembered : Net → ℕ → ℕ → ℕ → Type 0
-Remembered N v back u = v < size N → Holder N v back u
+-- the last one that was found, where there is one
+abbrev pub Remembered : Net → Option Held → Type 0
+Remembered N last = IfSome last (λ h. Holder N h.node h.back h.holder)
 
 pub holder_none : (N : Net) (v : ℕ) → v < size N → Holder N v 0 v
 holder_none N v h = record { inside = h; along = omega arith; same = λ t. ap (λ (s : ℕ). zero_word N s v) (zero-add t) }

@@ -5,11 +5,9 @@ ghost use Rattle.netlist.specs.Checks.{WellFormed};
 ghost use Rattle.retiming.specs.Rewrite.{passed};
 ghost use Rattle.wires.specs.Traced.{roots_in, passes_in, AllTraced};
 ghost use Rattle.first_clocks.specs.Holders.{Holder, Remembered};
-ghost use Rattle.circuit.specs.Circuit.{net_of, Circuit};
 
-use areas::read_at;
-use circuit::{source_of, wide};
-use wires::{PASSES, ROOTS};
+use circuit::Netlist;
+use wires::{PASSES, ROOTS, TIMING};
 
 // A node's holder: the node so many registers back from it on its wire.
 #[derive(Clone, Copy)]
@@ -21,51 +19,66 @@ pub struct Held {
 
 // From where to go on: the last holder that was found, where it is the same node's and not too far back, else the node itself.
 // The registers of a wire ask one after the other, so that its row is walked once.
-fn nearest(last: Held, v: usize, far: u16) -> Held
-    ensures { ((N : Net) → v < size N → Remembered N last.node last.back last.holder → Holder N v result.back result.holder) × (result.node ≡ v) × (result.back ≤ far) }
+fn nearest(last: Option<Held>, v: usize, far: u16) -> Held
+    ensures holder { (N : Net) → v < size N → Remembered N last → Holder N v result.back result.holder }
+    ensures node { result.node ≡ v }
+    ensures near { result.back ≤ far }
 {
-    if last.node == v {
-        if last.back <= far {
-            return last;
-        }
-    }
-    Held {
-        node: v,
-        back: 0,
-        holder: v,
+    match last {
+        Some(held) if held.node == v && held.back <= far => held,
+        _ => Held {
+            node: v,
+            back: 0,
+            holder: v,
+        },
     }
 }
 
 // Walks on to the holder that is so many registers back.
-fn walk_back(file: &[u8], net: &[u16], from: Held, far: u16) -> Held
-    requires circuit { Circuit file.now net.now }
-    requires asked { let N = net_of file.now net.now in WellFormed N × Holder N from.node from.back from.holder × (from.back ≤ far) × (far ≤ passed N from.node) }
-    ensures { let N = net_of file.now net.now in Holder N from.node far result.holder × (result.node ≡ from.node) × (result.back ≡ far) }
+fn walk_back(net: &Netlist, from: Held, far: u16) -> Held
+    requires formed { WellFormed net.now.net }
+    requires holder { Holder net.now.net from.node from.back from.holder }
+    requires near { from.back ≤ far }
+    requires passed { far ≤ passed net.now.net from.node }
+    ensures holder { Holder net.now.net from.node far result.holder }
+    ensures node { result.node ≡ from.node }
+    ensures back { result.back ≡ far }
 {
-    let node = from.node;
     let mut holder = from.holder;
-    let mut back = from.back;
-    while back < far {
-        holder = source_of(file, net, holder, 0);
-        back = back + 1;
+    for _back in from.back..far {
+        holder = net.source(holder, 0);
     }
-    Held { node, back, holder }
+    Held {
+        node: from.node,
+        back: far,
+        holder,
+    }
 }
 
 // The holder of the word that v has at a clock: the root of its wire, or a register as many back as there are clocks.
-pub fn holder_at(file: &[u8], net: &[u16], timing: &[u16], v: usize, clock: u16, last: Held) -> Held
-    requires circuit { Circuit file.now net.now }
-    requires asked { let N = net_of file.now net.now in WellFormed N × AllTraced N (roots_in timing.now) (passes_in timing.now) × (length timing.now ≡ 3072)
-        × (v < size N) × Remembered N last.node last.back last.holder }
-    ensures { let N = net_of file.now net.now in Holder N v result.back result.holder × (result.node ≡ v) × (result.back ≤ clock) }
+pub fn holder_at(
+    net: &Netlist,
+    timing: &[u16; TIMING],
+    v: usize,
+    clock: u16,
+    last: Option<Held>,
+) -> Held
+    requires formed { WellFormed net.now.net }
+    requires traced { AllTraced net.now.net (roots_in timing.now) (passes_in timing.now) }
+    requires node { v < size net.now.net }
+    requires last { Remembered net.now.net last }
+    ensures holder { Holder net.now.net v result.back result.holder }
+    ensures node { result.node ≡ v }
+    ensures near { result.back ≤ clock }
 {
-    let through = read_at(timing, PASSES + v);
+    net.bounds();
+    let through = timing[PASSES + v];
     if through <= clock {
         return Held {
             node: v,
             back: through,
-            holder: wide(read_at(timing, ROOTS + v)),
+            holder: timing[ROOTS + v] as usize,
         };
     }
-    walk_back(file, net, nearest(last, v, clock), clock)
+    walk_back(net, nearest(last, v, clock), clock)
 }

@@ -9,16 +9,11 @@ use words::Op;
 // How many words there are of a width.
 fn power(w: u8) -> u32
     requires { w ≤ 16 }
-    ensures { (result ≡ 2 ^ w) × (result ≤ 65536) × (0 < result) }
+    ensures power { result ≡ 2 ^ w }
+    ensures most { result ≤ 65536 }
+    ensures some { 0 < result }
 {
     1u32 << w
-}
-
-// The difference, and 0 where it would be negative.
-fn monus(x: u32, y: u32) -> u32
-    ensures { result ≡ x - y }
-{
-    if y <= x { x - y } else { 0 }
 }
 
 // The low w bits: every operation that can overflow its width is cut off here.
@@ -34,7 +29,7 @@ fn not(w: u8, a: u16) -> u16
     requires { w ≤ 16 }
     ensures { result ≡ 2 ^ w - 1 - a }
 {
-    monus(power(w) - 1, a as u32) as u16
+    (power(w) - 1).saturating_sub(a as u32) as u16
 }
 
 fn add(w: u8, a: u16, b: u16) -> u16
@@ -49,7 +44,7 @@ fn subtract(w: u8, a: u16, b: u16) -> u16
     requires { w ≤ 16 }
     ensures { result ≡ (a + (2 ^ w - b)) % 2 ^ w }
 {
-    low_bits(w, (a as u32) + monus(power(w), b as u32))
+    low_bits(w, (a as u32) + power(w).saturating_sub(b as u32))
 }
 
 // The w bits from bit low on. No word has a bit from 16 on, and low has no bound of its own, as a shift must have.
@@ -66,7 +61,8 @@ fn part(w: u8, low: u8, a: u16) -> u16
 
 // a above b, whose width is v.
 fn join(v: u8, a: u16, b: u16) -> u16
-    requires { (v ≤ 16) × (a * 2 ^ v + b < 65536) }
+    requires width { v ≤ 16 }
+    requires fits { a * 2 ^ v + b < 65536 }
     ensures { result ≡ a * 2 ^ v + b }
 {
     (((a as u32) << v) + (b as u32)) as u16
@@ -76,7 +72,9 @@ fn join(v: u8, a: u16, b: u16) -> u16
 // That the word fits 16 bits is asked for Join's sake: with checks 5 and 7 passed, every gate's word fits its width.
 #[tactic(auto, unfolding(words::specs::Gates::operate))]
 pub fn gate(op: Op, w: u8, v: u8, a: u16, b: u16, c: u16) -> u16
-    requires { (w ≤ 16) × (v ≤ 16) × (gate_word op w v a b c < 65536) }
+    requires width { w ≤ 16 }
+    requires second { v ≤ 16 }
+    requires fits { gate_word op w v a b c < 65536 }
     ensures { result ≡ gate_word op w v a b c }
 {
     match op {
@@ -87,8 +85,8 @@ pub fn gate(op: Op, w: u8, v: u8, a: u16, b: u16, c: u16) -> u16
         Op::Xor => a ^ b,
         Op::Add => add(w, a, b),
         Op::Subtract => subtract(w, a, b),
-        Op::Equal => { if a == b { 1 } else { 0 } }
-        Op::Less => { if a < b { 1 } else { 0 } }
+        Op::Equal => (a == b) as u16,
+        Op::Less => (a < b) as u16,
         Op::Choose => { if a == 1 { b } else { c } }
         Op::Part(low) => part(w, low, a),
         Op::Join => join(v, a, b),

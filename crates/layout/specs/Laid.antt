@@ -18,7 +18,7 @@ module _ (N : Net) (f : Timing) where
   unfolding node_at
   new_node_lem i h e = e ∙ sym (node_new N f (zero_word N) i h)
 
-  new-tables : (gated_with N f (zero_word N)).tables ≡ N.tables
+  pub new-tables : (gated_with N f (zero_word N)).tables ≡ N.tables
   unfolding gated_with new_tables
   new-tables = refl
 

@@ -4,4 +4,5 @@ pub mod EntryWords
 pub mod PlannedLaws
 pub mod NewRow
 pub mod PlannedNode
+pub mod Layout
 pub mod Laid

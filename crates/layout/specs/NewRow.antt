@@ -1,18 +1,16 @@
 -- The rows of the new nodes. In that of an old node a ROM's code becomes that of a clocked one, and its number the reset word. Assumes nothing.
-use Rattle.std.specs.Prelude.{◌≡◌, refl, Bool, cond, List, [], ◌∷◌, ℕ, ◌+◌, ◌<◌, eqb}
-use Rattle.std.proofs.Common.{sym, ap, subst, ◌∙◌, arith}
+use Rattle.std.specs.Prelude.{◌≡◌, refl, cond, List, [], ◌∷◌, ℕ, ◌+◌, ◌<◌}
+use Rattle.std.proofs.Common.{sym, subst, ◌∙◌, arith}
 use Rattle.lists.specs.Lists.{one}
-use Rattle.lists.proofs.BelowLaws.{one_eqb}
 use Rattle.words.specs.declared.Op.TheVariants.{Constant, Choose}
 use Rattle.netlist.specs.declared.Element.{Element}
 use Rattle.netlist.specs.declared.Element.TheVariants.{Input, Output, Register, Async, Clocked, Gate}
 use Rattle.netlist.specs.declared.Node.{Node}
-use Rattle.netlist.specs.Net.{Net, size, element_at, width_at, operands, table_of, is_async, is_clocked, is_memory}
-use Rattle.netlist.proofs.Memories.{memory_kinds}
+use Rattle.netlist.specs.Net.{Net, size, element_at, width_at, operands, table_of, is_async, is_memory}
 use Rattle.circuit.specs.declared.Row.{Row}
 use Rattle.circuit.specs.Code.{code_of, number_or, table_or}
 use Rattle.circuit.specs.Circuit.{row_node, net_of, Fits, Circuit}
-use Rattle.opening.specs.Rows.{row_fits, row_node_lem, part_small}
+use Rattle.circuit.proofs.RowLaws.{row_fits, row_node_lem, part_small}
 use Rattle.retiming.specs.Rewrite.{new_element}
 
 module _ (m c : ℕ) where
@@ -48,9 +46,6 @@ new-table (Async k) c h = h
 new-table (Clocked k r) c h = h
 new-table (Gate o) c h = refl
 
-memory_one : (e : Element) → eqb (one (is_async e) + one (is_clocked e)) 1 ≡ is_memory e
-memory_one e = ap (λ (n : ℕ). eqb n 1) (memory_kinds e) ∙ one_eqb (is_memory e)
-
 -- ---- the row of an element, and of its node
 
 -- old node u made new, over what it reads
@@ -73,31 +68,30 @@ RowOf r x = Fits r × (row_node r ≡ x)
 pub row_as : {r : Row} {x y : Node} → RowOf r x → x ≡ y → RowOf r y
 row_as h e = (h.0, h.1 ∙ e)
 
-module _ (s l : List ℕ) (o : Circuit s l) (u : ℕ) (h : u < size (net_of s l)) (word : ℕ) (xs : List ℕ) where
-  abbrev N : Net
-  N = net_of s l
+-- a part's lowest bit is a byte, in what a circuit shows
+pub part_byte : (s l : List ℕ) → Circuit s l → {N : Net} → net_of s l ≡ N → (u : ℕ) → u < size N → {k : ℕ} → k ≡ number_or k (element_at N u) → code_of (element_at N u) ≡ 18 → k < 256
+part_byte s l o e u h {k} number =
+    subst (λ (M : Net). u < size M → k ≡ number_or k (element_at M u) → code_of (element_at M u) ≡ 18 → k < 256) e (λ h number. part_small s l o u h refl number) h number
 
-  pub entry_row : {c rom clocked k k' n t w : ℕ} → c ≡ code_of (element_at N u) → rom ≡ one (is_async (element_at N u)) → clocked ≡ one (is_clocked (element_at N u)) → n ≡ operands (element_at N u)
-      → k ≡ number_or k (element_at N u) → k' ≡ cond (eqb (rom + clocked) 1) word k → (t ≡ table_or t (element_at N u)) × (t < 256) → (w ≡ width_at N u) × (w < 256)
+module _ (N : Net) (u word : ℕ) (xs : List ℕ) where
+  abbrev e : Element
+  e = element_at N u
+
+  pub entry_row : {c rom k k' n t w : ℕ} → c ≡ code_of e → rom ≡ one (is_async e) → n ≡ operands e → k ≡ number_or k e → (code_of e ≡ 18 → k < 256) → k' ≡ cond (is_memory e) word k
+      → t ≡ table_or t e → t < 256 → w ≡ width_at N u → w < 256
       → RowOf (record { code = c + rom; width = w; count = n; sources = xs; number = k'; table = t }) (entry_node N u word xs)
-  entry_row {c} {rom} {clocked} {k} {k'} {n} {t} {w} code r q count number held table width =
+  entry_row {c} {rom} {k} {k'} {n} {t} {w} code r count number byte held table few width narrow =
       let x = entry_node N u word xs in
       let f : c + rom ≡ code_of x.element = omega (arith, code, r, new_code m word e) in
       let g = count ∙ sym (new-operands m word e) in
-      let d = new-table e word table.0 in
-      (row_fits x k' t width.0 refl f g held_is d width.1 table.1 (λ z. lowest (f ∙ z)), row_node_lem x k' t width.0 refl f g held_is d)
+      let d = new-table e word table in
+      (row_fits x k' t width refl f g held_is d narrow few (λ z. lowest (f ∙ z)), row_node_lem x k' t width refl f g held_is d)
     where
-      e : Element
-      e = element_at N u
-
       m : ℕ
       m = table_of e
 
-      k_is : k' ≡ cond (is_memory e) word k
-      k_is = held ∙ (λ i. cond (eqb (r i + q i) 1) word k) ∙ ap (λ (b : Bool). cond b word k) (memory_one e)
-
       held_is : k' ≡ number_or k' (new_element e m word)
-      held_is = subst (λ (z : ℕ). z ≡ number_or z (new_element e m word)) (sym k_is) (new_number m word e number)
+      held_is = subst (λ (z : ℕ). z ≡ number_or z (new_element e m word)) (sym held) (new_number m word e number)
 
       -- a part is no ROM: its number is the old one
       part_number : (x : Element) → code_of x + one (is_async x) ≡ 18 → (cond (is_memory x) word k ≡ k) × (code_of x ≡ 18)
@@ -111,7 +105,7 @@ module _ (s l : List ℕ) (o : Circuit s l) (u : ℕ) (h : u < size (net_of s l)
       lowest : c + rom ≡ 18 → k' < 256
       lowest g =
           let p = part_number e (omega (arith, code, r)) in
-          omega (arith, k_is, p.0, part_small s l o u h code number (code ∙ p.1))
+          omega (arith, held, p.0, byte p.1)
 
 -- the rows of nodes that have no table, and are no parts
 module _ {w : ℕ} (h : w < 256) where

@@ -5,6 +5,9 @@ use Rattle.behaviour.specs.Run.{zero_word}
 use Rattle.retiming.specs.Rewrite.{Timing, Entry, Reg, reset_word, places, number_of, along}
 use Rattle.retiming.specs.Gates.{Spot, Old, One, Chain, Shown, Pick, first_on, spots, spot_number, picked}
 use Rattle.retiming.specs.GatesLayout.{no_spot}
+use Rattle.retiming.specs.Modes.{mode_timing}
+use Rattle.plan.specs.Areas.{owners_in, late_in, sources_in}
+use Rattle.steering.specs.declared.Steered.{Steered}
 use Rattle.layout.specs.Ranges.{Ranged}
 
 module _ (N : Net) (f : Timing) (owners words late sources : List ℕ) where
@@ -34,3 +37,8 @@ module _ (N : Net) (f : Timing) (owners words late sources : List ℕ) where
     -- of the constant and the chain it is not known
     pub inside : (i : ℕ) → i < total → (wired ≤ i → wired + chain < i) → get_or owners i 0 < size N
     pub held : (i : ℕ) → i < total → SpotHeld i (get_or (spots N f (zero_word N)) i no_spot)
+
+-- of a plan with its gates, the plan's area and the reset words
+abbrev pub PlannedBy : Net → Steered → List ℕ → List ℕ → Type 0
+PlannedBy N made plan words =
+    Planned N (mode_timing made.mode N) (owners_in plan) words (late_in plan) (sources_in plan) made.entries made.wired made.chain made.total

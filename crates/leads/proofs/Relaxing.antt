@@ -1,6 +1,8 @@
 -- A reader and its operands as the code reads them, over plain values. Assumes nothing.
 use mathlib.Core.Path.{◌≡◌, refl, sym, ap, subst, ◌∙◌}
+use mathlib.Core.Bool.{Bool, true, false}
 use mathlib.Core.List.{List}
+use mir.Val.{bool_byte}
 use Prim.Native.Nat.{ℕ, ◌+◌, ◌≤◌, ◌<◌}
 use native.Mathlib.Omega.{arith}
 use lib.ListN.{length, get_or}
@@ -19,6 +21,11 @@ use Rattle.leads.specs.Progress.{Served, ServedTo, Content, Raise, enough, lifte
 pub raise_bit : {L : List ℕ} {u due taken : ℕ} {M : List ℕ} {j : ℕ} → Raise L u due taken M j → j ≤ 1
 raise_bit (enough l) = omega arith
 raise_bit (lifted l) = omega arith
+
+-- a flag as a number
+one_byte : (b : Bool) → bool_byte b ≡ one b
+one_byte true = refl
+one_byte false = refl
 
 pub rom_count_lem : (N : Net) → count_of (λ e. eqb (code_of e) 3) N ≡ rom_count N
 unfolding rom_count
@@ -40,11 +47,11 @@ module _ (N : Net) {x n : ℕ} (h : x < size N) (o : n ≡ operands (element_at 
   source_inside {p} sourced l e = subst (λ (v : ℕ). v < size N) (sym e) (sourced x p h (used l))
 
   module _ (bound : ℕ) {own : ℕ} {L₀ : List ℕ} (is : own ≡ get_or L₀ x 0) where
-    pub relax-more : {k p u bit taken j : ℕ} {L M : List ℕ} → Sourced N → (own ≡ 0 → ⊥) → own ≤ bound → size N ≤ length L → p < n → u ≡ source N x p → bit ≡ one (is_async (element_at N u))
-        → taken ≡ one (is_register (element_at N x)) → Progress N bound L₀ L k (ServedTo N x own p) → Raise L u (bit + own) taken M j → Progress N bound L₀ M (k + j) (ServedTo N x own (p + 1))
+    pub relax-more : {k p u j : ℕ} {a t : Bool} {L M : List ℕ} → Sourced N → (own ≡ 0 → ⊥) → own ≤ bound → size N ≤ length L → p < n → u ≡ source N x p → a ≡ is_async (element_at N u)
+        → t ≡ is_register (element_at N x) → Progress N bound L₀ L k (ServedTo N x own p) → Raise L u (bool_byte a + own) (bool_byte t) M j → Progress N bound L₀ M (k + j) (ServedTo N x own (p + 1))
     unfolding async_here register_here
     relax-more {p = p} sourced asks fits room l e b c t r =
-        raised_more N bound x p own h (used l) (source_inside sourced l refl) room (omega arith) fits is t e (ap (λ (m : ℕ). m + own) (b ∙ ap (async_here N) e)) c r (λ d f. below_more (λ (q : ℕ). Served N x own L₀ q) p d f)
+        raised_more N bound x p own h (used l) (source_inside sourced l refl) room (omega arith) fits is t e (ap (λ (m : ℕ). m + own) (one_byte _ ∙ ap one b ∙ ap (async_here N) e)) (one_byte _ ∙ ap one c) r (λ d f. below_more (λ (q : ℕ). Served N x own L₀ q) p d f)
 
     -- all operands seen
     pub relax-done : {k p : ℕ} {L : List ℕ} → n ≤ p → Progress N bound L₀ L k (ServedTo N x own p) → Progress N bound L₀ L k (Content N bound x)

@@ -1,28 +1,28 @@
 -- A pass that raised nothing, a number over the bound, and what 11 and 12 then say, over plain values. Assumes nothing.
-use mathlib.Core.Path.{◌≡◌, sym, ap₂, subst, ◌∙◌}
+use mathlib.Core.Path.{◌≡◌, sym, ap, subst, ◌∙◌}
 use mathlib.Core.Logic.{◌⊎◌, inl, inr}
 use mathlib.Core.Bool.{Bool, true, false, ◌&&◌, true≢false, false≢true}
-use mathlib.Core.List.{List, [], ◌∷◌}
+use mathlib.Core.List.{List, [], ◌∷◌, ◌++◌}
 use Prim.Native.Nat.{ℕ, ◌+◌, ◌≤◌, ◌<◌, zero-le}
 use native.Mathlib.Omega.{arith}
-use lib.ListN.{get_or}
+use lib.ListN.{length, get_or, get_or-append}
 use lib.Dec.{ltb}
 use borrow.Author.Tests.{ltb-true, ltb-false}
 use Rattle.lists.specs.Lists.{any_below, lowest}
 use Rattle.lists.proofs.BelowLaws.{any_below_elim, any_below_none, lowest_from_is}
 use Rattle.lists.proofs.SearchLaws.{Passed, lowest_here, lowest_past, lowest_bound}
 use Rattle.netlist.specs.Net.{Net, size, element_at, is_input, Sourced}
-use Rattle.netlist.specs.declared.Verdict.TheVariants.{Fine, Refuses}
-use Rattle.netlist.specs.Verdict.{at_lowest, of_whole, verdict}
-use Rattle.netlist.proofs.Places.{skip, refuses}
+use Rattle.netlist.specs.Verdict.{Fine, Refuses, at_lowest, of_whole, verdict}
+use Rattle.netlist.proofs.Places.{skip}
 use Rattle.retiming.specs.AtMostRoms.{rom_count}
+use Rattle.retiming.specs.Rewrite.{Timing}
 use Rattle.retiming.specs.LateLeads.{origin, closed_debt_to, owing_port_to}
 use Rattle.retiming.specs.declared.Mode.{Mode}
 use Rattle.retiming.specs.Modes.{mode_ends, mode_closed, mode_owing}
 use Rattle.leads.specs.Debts.{owing_by, debts_verdict}
 use Rattle.leads.specs.Progress.{Walked, Quiet, Progress}
-use Rattle.leads.specs.Settled.{Found, Outcome, settled, debt, quiet_settled, over_debt}
-use Rattle.leads.proofs.ByMode.{origin_is, closed_by, owing_to}
+use Rattle.leads.specs.Settled.{LeadsIn, Found, Outcome, settled, debt, quiet_settled, over_debt}
+use Rattle.leads.proofs.ByMode.{closed_by, owing_to}
 
 module _ (N : Net) (sourced : Sourced N) {bound n : ℕ} (z : n ≡ size N) {ends : ℕ → Bool} {L : List ℕ} (t : Walked N ends L) where
   pub over_found : bound ≡ origin N + rom_count N → any_below n (λ v. ltb bound (get_or L v 0)) ≡ true → Outcome N ends L false
@@ -52,6 +52,11 @@ lowest_same n {q} {r} same = found (lowest_from_is q 0 n).found
     found (inl e) = let k : lowest n q ≡ n = omega arith in k ∙ lowest_past n r (subst (Passed r) k passed)
     found (inr e) = let l : lowest n q < n = omega (arith, e.0) in lowest_here n r (lowest n q) passed l (sym (same (lowest n q) l) ∙ e.1)
 
+-- and so a check by it
+check-same : (k n : ℕ) {q r : ℕ → Bool} → ((v : ℕ) → v < n → q v ≡ r v) → verdict (at_lowest k n q ∷ []) ≡ verdict (at_lowest k n r ∷ [])
+unfolding verdict
+check-same k n same = ap (λ (low : ℕ). elim (ltb low n) [ true ↦ Refuses k low | false ↦ Fine ]) (lowest_same n same)
+
 module _ (mode : Mode) (N : Net) where
   closed_says : mode_closed mode N ≡ true → Refuses 11 65535 ≡ debts_verdict mode N
   unfolding debts_verdict verdict
@@ -78,15 +83,14 @@ module _ (mode : Mode) (N : Net) where
           when (settled d f) e = (sym (closed_by N sourced mode) ∙ d, f)
           when (debt d) e = absurd (false≢true e)
 
-      -- v is the lowest port that owes by the numbers found
-      module _ {n v : ℕ} (z : n ≡ size N) (low : v ≡ lowest (size N) (owing_by N (n + 2) L)) where
-        owing : (u : ℕ) → u < size N → owing_by N (n + 2) L u ≡ mode_owing mode N u
-        unfolding owing_by owing_port_to
-        owing u l = ap₂ (λ (m k : ℕ). is_input (element_at N u) && ltb m k) (origin_is N z) (now_settled.1 u l) ∙ owing_to N sourced mode now_settled.0 u l
+      owing : (u : ℕ) → u < size N → owing_by N (origin N) L u ≡ mode_owing mode N u
+      unfolding owing_by owing_port_to
+      owing u l = ap (λ (k : ℕ). is_input (element_at N u) && ltb (origin N) k) (now_settled.1 u l) ∙ owing_to N sourced mode now_settled.0 u l
 
-        pub says_12 : v < n → Refuses 12 v ≡ debts_verdict mode N
-        says_12 h = sym (past_11 now_settled.0 ∙ refuses 12 (size N) (mode_owing mode N) [] v (sym (low ∙ lowest_same (size N) owing), omega arith))
+      -- 12 by the numbers found
+      pub ports_say : verdict (at_lowest 12 (size N) (owing_by N (origin N) L) ∷ []) ≡ debts_verdict mode N
+      ports_say = check-same 12 (size N) owing ∙ sym (past_11 now_settled.0)
 
-        pub says_neither : n ≤ v → Fine ≡ debts_verdict mode N
-        unfolding verdict
-        says_neither h = sym (past_11 now_settled.0 ∙ skip (at_lowest 12 (size N) (mode_owing mode N)) [] (λ u l. sym (owing u l) ∙ (lowest_from_is (owing_by N (n + 2) L) 0 (size N)).none_before u zero-le (omega arith)))
+-- the leads at the front of a list
+pub leads_front : (N : Net) (f : Timing) (L M : List ℕ) → size N ≤ length L → LeadsIn N f L → LeadsIn N f (L ++ M)
+leads_front N f L M room leads v h = get_or-append L M 0 v (omega arith) ∙ leads v h

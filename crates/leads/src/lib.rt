@@ -6,10 +6,11 @@ pub mod largest;
 mod modes;
 mod worklist;
 
-ghost use Rattle.std.specs.Prelude.{◌≡◌, Bool, ℕ, ◌+◌, ◌<◌, ◌≤◌, length, get_or, ltb};
-ghost use Rattle.lists.specs.Lists.{any_below, lowest};
+ghost use Rattle.std.specs.Prelude.{◌≡◌, Bool, [], ◌∷◌, ℕ, ◌+◌, ◌<◌, ◌≤◌, length, get_or, ltb, is_ok, OnOk, IfErr};
+ghost use Rattle.lists.specs.Lists.{any_below};
 ghost use Rattle.netlist.specs.Net.{size, Sourced};
-ghost use Rattle.circuit.specs.Circuit.{net_of, Circuit};
+ghost use Rattle.netlist.specs.Refusal.{said};
+ghost use Rattle.netlist.specs.Verdict.{at_lowest, verdict};
 ghost use Rattle.retiming.specs.AtMostRoms.{rom_count};
 ghost use Rattle.retiming.specs.LateLeads.{origin};
 ghost use Rattle.retiming.specs.Modes.{mode_ends, mode_timing};
@@ -17,27 +18,33 @@ ghost use Rattle.leads.specs.Debts.{owing_by, debts_verdict};
 ghost use Rattle.leads.specs.Progress.{Walked, Content, Quiet, Raise, Progress};
 ghost use Rattle.leads.specs.Settled.{LeadsIn, Outcome};
 
-use areas::read_at;
-use circuit::{async_rom, count_kind, input, node_count, register, source_count, source_of, wide};
-use modes::{begin, finish};
-use netlist::Verdict;
+use circuit::Netlist;
+use circuit::codes::ASYNC_ROM;
+use modes::{begin, finish, origin};
+use netlist::Refusal;
 use retiming::Mode;
 use worklist::spread;
 
-// The number of asynchronous ROMs.
-fn count_roms(file: &[u8], net: &[u16]) -> usize
-    requires { Circuit file.now net.now }
-    ensures { result ≡ rom_count (net_of file.now net.now) }
+// The numbers stand first in the caller's area, one for each node that there may be.
+const NODES: usize = 1024;
+
+// No number is higher where there is no closed debt.
+fn highest(net: &Netlist) -> usize
+    ensures bound { result ≡ origin net.now.net + rom_count net.now.net }
+    ensures few { result < 65535 }
 {
-    count_kind(file, net, 3)
+    net.bounds();
+    origin(net) as usize + net.count_code(ASYNC_ROM)
 }
 
-// Raises the number of u to due - taken where it is lower, and then gives 1.
-fn raise(leads: &mut [u16], u: usize, due: usize, taken: usize) -> usize
-    requires { (u < length leads.old) × (due ≤ 65535) × (taken ≤ 1) }
+// Raises the number of u to due - taken where it is lower; gives how many numbers it raised, 1 or 0, which its caller adds up.
+fn raise(leads: &mut [u16; NODES], u: usize, due: usize, taken: usize) -> usize
+    requires inside { u < 1024 }
+    requires due { due ≤ 65535 }
+    requires taken { taken ≤ 1 }
     ensures { Raise leads.old u due taken leads.new result }
 {
-    if wide(leads[u]) + taken < due {
+    if leads[u] as usize + taken < due {
         leads[u] = (due - taken) as u16;
         return 1;
     }
@@ -46,26 +53,27 @@ fn raise(leads: &mut [u16], u: usize, due: usize, taken: usize) -> usize
 
 // Raises the numbers of what x reads as far as x asks, and gives how many it raised. Where no walk counts nothing is asked, and a number over the bound shows a closed
 // debt, and asks for no more.
-fn relax(file: &[u8], net: &[u16], bound: usize, x: usize, leads: &mut [u16]) -> usize
-    requires circuit { Circuit file.now net.now }
-    requires asked { let N = net_of file.now net.now in Sourced N × (bound < 65535) × (x < size N) × (size N ≤ length leads.old) }
-    ensures { let N = net_of file.now net.now in (result ≤ 3) × Progress N bound leads.old leads.new result (Content N bound x) }
+fn relax(net: &Netlist, bound: usize, x: usize, leads: &mut [u16; NODES]) -> usize
+    requires sourced { Sourced net.now.net }
+    requires bound { bound < 65535 }
+    requires node { x < size net.now.net }
+    ensures few { result ≤ 3 }
+    ensures progress { let N = net.now.net in Progress N bound leads.old leads.new result (Content N bound x) }
 {
-    let own = wide(read_at(leads, x));
+    net.bounds();
+    let own = leads[x] as usize;
     if own == 0 {
         return 0;
     }
     if bound < own {
         return 0;
     }
-    let taken = register(file, net, x);
-    let n = source_count(file, net, x);
-    let mut raised: usize = 0;
-    let mut p: usize = 0;
-    while p < n {
-        let u = source_of(file, net, x, p);
-        raised = raised + raise(leads, u, async_rom(file, net, u) + own, taken);
-        p = p + 1;
+    // A register takes one off what is asked, and an asynchronous ROM asks one more.
+    let taken = net.is_register(x) as usize;
+    let mut raised = 0;
+    for p in 0..net.source_count(x) {
+        let u = net.source(x, p);
+        raised += raise(leads, u, net.is_async_rom(u) as usize + own, taken);
     }
     raised
 }
@@ -73,114 +81,98 @@ fn relax(file: &[u8], net: &[u16], bound: usize, x: usize, leads: &mut [u16]) ->
 // ---- passes until no reader asks more
 
 // One pass over all readers; gives how many numbers it raised.
-fn pass(file: &[u8], net: &[u16], bound: usize, leads: &mut [u16]) -> usize
-    requires circuit { Circuit file.now net.now }
-    requires asked { let N = net_of file.now net.now in Sourced N × (bound < 65535) × (size N ≤ length leads.old) }
-    ensures { let N = net_of file.now net.now in Progress N bound leads.old leads.new result (Quiet N bound (size N)) }
+fn pass(net: &Netlist, bound: usize, leads: &mut [u16; NODES]) -> usize
+    requires sourced { Sourced net.now.net }
+    requires bound { bound < 65535 }
+    ensures { let N = net.now.net in Progress N bound leads.old leads.new result (Quiet N bound (size N)) }
 {
-    let n = node_count(file, net);
-    let mut raised: usize = 0;
-    let mut x: usize = 0;
-    while x < n {
-        raised = raised + relax(file, net, bound, x, leads);
-        x = x + 1;
+    let mut raised = 0;
+    for x in 0..net.node_count() {
+        raised += relax(net, bound, x, leads);
     }
     raised
 }
 
 // Whether one of the first n numbers is over the bound.
-fn over_bound(leads: &[u16], n: usize, bound: usize) -> bool
-    requires { n ≤ length leads.now }
+fn over_bound(leads: &[u16; NODES], n: usize, bound: usize) -> bool
+    requires { n ≤ 1024 }
     ensures { result ≡ any_below n (λ v. ltb bound (get_or leads.now v 0)) }
 {
-    let mut v: usize = 0;
-    while v < n {
-        if bound < wide(read_at(leads, v)) {
+    for v in 0..n {
+        if bound < leads[v] as usize {
             return true;
         }
-        v = v + 1;
     }
     false
 }
 
-// Whether the numbers settle; if not, there is a closed debt.
-fn settle(file: &[u8], net: &[u16], bound: usize, leads: &mut [u16]) -> bool
-    requires circuit { Circuit file.now net.now }
-    requires asked { let N = net_of file.now net.now in Sourced N × (bound ≡ origin N + rom_count N) × (size N ≤ length leads.old) }
-    ensures { let N = net_of file.now net.now in ((ends : ℕ → Bool) → Walked N ends leads.old → Outcome N ends leads.new result) }
+// The numbers settle, or there is a closed debt.
+fn settle(net: &Netlist, bound: usize, leads: &mut [u16; NODES]) -> Result<(), Refusal>
+    requires sourced { Sourced net.now.net }
+    requires bound { bound ≡ origin net.now.net + rom_count net.now.net }
+    ensures outcome { (ends : ℕ → Bool) → Walked net.now.net ends leads.old → Outcome net.now.net ends leads.new (is_ok result) }
+    ensures debt { IfErr result (λ r. r ≡ Refusal.ClosedDebt) }
 {
-    let n = node_count(file, net);
+    let n = net.node_count();
+    // Passes go on until one raises nothing: no range counts them.
     loop {
         if over_bound(leads, n, bound) {
-            return false;
+            return Err(Refusal::ClosedDebt);
         }
-        if pass(file, net, bound, leads) == 0 {
-            return true;
+        if pass(net, bound, leads) == 0 {
+            return Ok(());
         }
     }
 }
 
-// Finds the leads, counted from the origin, which is `base`, or a closed debt.
-fn search_leads(file: &[u8], net: &[u16], mode: Mode, base: u16, leads: &mut [u16]) -> bool
-    requires circuit { Circuit file.now net.now }
-    requires asked { let N = net_of file.now net.now in Sourced N × (base ≡ origin N) × (size N ≤ length leads.old) }
-    ensures { let N = net_of file.now net.now in Outcome N (mode_ends mode N) leads.new result }
+// Check 11: finds the leads, counted from the origin, where there is no closed debt.
+fn search_leads(net: &Netlist, mode: Mode, leads: &mut [u16; NODES]) -> Result<(), Refusal>
+    requires sourced { Sourced net.now.net }
+    ensures outcome { Outcome net.now.net (mode_ends mode net.now.net) leads.new (is_ok result) }
+    ensures debt { IfErr result (λ r. r ≡ Refusal.ClosedDebt) }
 {
-    let bound = wide(base) + count_roms(file, net);
-    begin(file, net, mode, base, leads);
-    spread(file, net, bound, leads);
-    settle(file, net, bound, leads)
+    let bound = highest(net);
+    begin(net, mode, leads);
+    spread(net, bound, leads);
+    settle(net, bound, leads)
 }
 
 // ---- check 12
 
 // Whether v is an input port with a positive lead: its number is above the origin.
-fn owes(file: &[u8], net: &[u16], base: u16, leads: &[u16], v: usize) -> bool
-    requires circuit { Circuit file.now net.now }
-    requires asked { let N = net_of file.now net.now in (v < size N) × (size N ≤ length leads.now) }
-    ensures { let N = net_of file.now net.now in result ≡ owing_by N base leads.now v }
+fn owes(net: &Netlist, base: u16, leads: &[u16; NODES], v: usize) -> bool
+    requires node { v < size net.now.net }
+    ensures { result ≡ owing_by net.now.net base leads.now v }
 {
-    if input(file, net, v) == 1 {
-        base < read_at(leads, v)
-    } else {
-        false
-    }
+    net.bounds();
+    net.is_input(v) && base < leads[v]
 }
 
-// The lowest input port with a positive lead, or the number of nodes.
-fn lowest_owing(file: &[u8], net: &[u16], base: u16, leads: &[u16]) -> usize
-    requires circuit { Circuit file.now net.now }
-    requires asked { let N = net_of file.now net.now in size N ≤ length leads.now }
-    ensures { let N = net_of file.now net.now in result ≡ lowest (size N) (owing_by N base leads.now) }
+// Check 12, by numbers that are counted from the origin.
+fn check_ports(net: &Netlist, leads: &[u16; NODES]) -> Result<(), Refusal>
+    ensures { let N = net.now.net in said result ≡ verdict (at_lowest 12 (size N) (owing_by N (origin N) leads.now) ∷ []) }
 {
-    let n = node_count(file, net);
-    let mut v: usize = 0;
-    while v < n {
-        if owes(file, net, base, leads, v) {
-            return v;
+    let base = origin(net);
+    for v in 0..net.node_count() {
+        if owes(net, base, leads, v) {
+            return Err(Refusal::PortDebt(v as u16));
         }
-        v = v + 1;
     }
-    v
+    Ok(())
 }
 
 // Finds the leads of a netlist, or says 11 or 12; nothing is then said of the numbers left in the work area.
 // The circuit's order is a hint, best an evaluation order of the nodes: it saves time, and any numbers will do.
-pub fn find_leads(file: &[u8], net: &[u16], mode: Mode, leads: &mut [u16]) -> Verdict
-    requires circuit { Circuit file.now net.now }
-    requires asked { let N = net_of file.now net.now in Sourced N × (1024 ≤ length leads.old) }
-    ensures { let N = net_of file.now net.now in (result ≡ debts_verdict mode N) × (result ≡ Verdict.Fine → LeadsIn N (mode_timing mode N) leads.new) }
+pub fn find_leads(net: &Netlist, mode: Mode, leads: &mut [u16]) -> Result<(), Refusal>
+    requires sourced { Sourced net.now.net }
+    requires room { 1024 ≤ length leads.old }
+    ensures verdict { said result ≡ debts_verdict mode net.now.net }
+    ensures leads { OnOk result (LeadsIn net.now.net (mode_timing mode net.now.net) leads.new) }
 {
-    let n = node_count(file, net);
-    // The origin: no walk without repetition loses so much.
-    let base = (n + 2) as u16;
-    if search_leads(file, net, mode, base, leads) {
-        let port = lowest_owing(file, net, base, leads);
-        if port < n {
-            return Verdict::Refuses(12, port as u16);
-        }
-        finish(file, net, mode, base, leads);
-        return Verdict::Fine;
-    }
-    Verdict::Refuses(11, 65535)
+    net.bounds();
+    let numbers = leads.first_chunk_mut::<NODES>().unwrap();
+    search_leads(net, mode, numbers)?;
+    check_ports(net, numbers)?;
+    finish(net, mode, numbers);
+    Ok(())
 }

@@ -5,21 +5,26 @@ ghost use Rattle.retiming.specs.LateLeads.{origin, lead_to};
 ghost use Rattle.retiming.specs.Modes.{mode_ends, mode_closed, mode_timing};
 ghost use Rattle.leads.specs.Progress.{Walked};
 ghost use Rattle.leads.specs.Settled.{LeadsIn, Found};
-ghost use Rattle.circuit.specs.Circuit.{net_of, Circuit};
 
-use areas::{read_at, write_at};
-use circuit::{input, node_count, output};
+use super::NODES;
+use circuit::Netlist;
 use retiming::Mode;
 
+// The origin: the number of an empty walk. No walk without repetition loses so much.
+pub fn origin(net: &Netlist) -> u16
+    ensures { result ≡ origin net.now.net }
+{
+    (net.node_count() + 2) as u16
+}
+
 // Whether a walk that counts may end at node v.
-fn may_end(file: &[u8], net: &[u16], mode: Mode, v: usize) -> bool
-    requires circuit { Circuit file.now net.now }
-    requires asked { let N = net_of file.now net.now in v < size N }
-    ensures { let N = net_of file.now net.now in result ≡ mode_ends mode N v }
+fn may_end(net: &Netlist, mode: Mode, v: usize) -> bool
+    requires { v < size net.now.net }
+    ensures { result ≡ mode_ends mode net.now.net v }
 {
     match mode {
         Mode::Plain => true,
-        Mode::Late => output(file, net, v) == 1,
+        Mode::Late => net.is_output(v),
     }
 }
 
@@ -30,48 +35,40 @@ fn number_if(counts: bool, number: u16) -> u16
     if counts { number } else { 0 }
 }
 
-// The empty walks: the origin, which is `base`, where a walk may end, and 0 elsewhere.
-pub fn begin(file: &[u8], net: &[u16], mode: Mode, base: u16, leads: &mut [u16])
-    requires circuit { Circuit file.now net.now }
-    requires asked { let N = net_of file.now net.now in (base ≡ origin N) × (size N ≤ length leads.old) }
-    ensures { let N = net_of file.now net.now in Walked N (mode_ends mode N) leads.new }
+// The empty walks: the origin where a walk may end, and 0 elsewhere.
+pub fn begin(net: &Netlist, mode: Mode, leads: &mut [u16; NODES])
+    ensures { Walked net.now.net (mode_ends mode net.now.net) leads.new }
 {
-    let n = node_count(file, net);
-    let mut v: usize = 0;
-    while v < n {
-        write_at(leads, v, number_if(may_end(file, net, mode, v), base));
-        v = v + 1;
+    let base = origin(net);
+    for v in 0..net.node_count() {
+        leads[v] = number_if(may_end(net, mode, v), base);
     }
 }
 
-// The lead of node v in the mode's timing: document 01 counts from 0, and with a late start an input port is at the origin.
-fn timed(file: &[u8], net: &[u16], mode: Mode, base: u16, v: usize, number: u16) -> u16
-    requires circuit { Circuit file.now net.now }
-    requires asked { let N = net_of file.now net.now in Sourced N × (mode_closed mode N ≡ false) × (base ≡ origin N) × (v < size N) × (number ≡ lead_to N (mode_ends mode N) v) }
-    ensures { let N = net_of file.now net.now in result ≡ (mode_timing mode N).lead v }
+// The lead of node v in the mode's timing, by the number found: document 01 counts from 0, and with a late start an input port is at the origin.
+fn timed(net: &Netlist, mode: Mode, base: u16, v: usize, number: u16) -> u16
+    requires sourced { Sourced net.now.net }
+    requires no_debt { mode_closed mode net.now.net ≡ false }
+    requires base { base ≡ origin net.now.net }
+    requires node { v < size net.now.net }
+    requires found { number ≡ lead_to net.now.net (mode_ends mode net.now.net) v }
+    ensures { result ≡ (mode_timing mode net.now.net).lead v }
 {
     match mode {
         Mode::Plain => number - base,
-        Mode::Late => {
-            if input(file, net, v) == 1 {
-                base
-            } else {
-                number
-            }
-        }
+        Mode::Late => { if net.is_input(v) { base } else { number } }
     }
 }
 
 // The numbers found become the leads of the mode's timing.
-pub fn finish(file: &[u8], net: &[u16], mode: Mode, base: u16, leads: &mut [u16])
-    requires circuit { Circuit file.now net.now }
-    requires asked { let N = net_of file.now net.now in Sourced N × (mode_closed mode N ≡ false) × (base ≡ origin N) × Found N (mode_ends mode N) leads.old × (size N ≤ length leads.old) }
-    ensures { let N = net_of file.now net.now in LeadsIn N (mode_timing mode N) leads.new }
+pub fn finish(net: &Netlist, mode: Mode, leads: &mut [u16; NODES])
+    requires sourced { Sourced net.now.net }
+    requires no_debt { mode_closed mode net.now.net ≡ false }
+    requires found { Found net.now.net (mode_ends mode net.now.net) leads.old }
+    ensures { LeadsIn net.now.net (mode_timing mode net.now.net) leads.new }
 {
-    let n = node_count(file, net);
-    let mut v: usize = 0;
-    while v < n {
-        write_at(leads, v, timed(file, net, mode, base, v, read_at(leads, v)));
-        v = v + 1;
+    let base = origin(net);
+    for v in 0..net.node_count() {
+        leads[v] = timed(net, mode, base, v, leads[v]);
     }
 }

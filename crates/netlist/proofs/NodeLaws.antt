@@ -1,5 +1,5 @@
 -- What a well made node field holds, how many operands an element has, and the number of an operation. Assumes nothing.
-use Rattle.std.specs.Prelude.{◌≡◌, refl, Bool, true, false, cond, List, ℕ, ◌≤◌, ◌<◌, length, get_or, eqb}
+use Rattle.std.specs.Prelude.{◌≡◌, refl, Bool, true, false, cond, List, ℕ, ◌≤◌, ◌<◌, length, get_or, eqb, Option, Some, None}
 use Rattle.std.proofs.lemmas.Bool.{false≢true}
 use Rattle.std.proofs.Common.{arith, eqb→eq, lit≤, ne_eqb}
 use Rattle.lists.proofs.Paths.{arms_lt, arms_eq}
@@ -12,19 +12,17 @@ use Rattle.netlist.specs.Net.{operands}
 use Rattle.netlist.specs.declared.Element.{Element}
 use Rattle.netlist.specs.declared.Element.TheVariants.{Input, Output, Register, Async, Clocked, Gate}
 use Rattle.netlist.specs.NodeField.{plain_op, op_number, kind_read, element_read, node_with, node_read}
-use Rattle.netlist.specs.declared.ElementRead.{ElementRead}
-use Rattle.netlist.specs.declared.ElementRead.TheVariants.{Bad, Found}
 
 -- a kind and a width stand in it
-pub record NodeFacts (c : List ℕ) (r : ElementRead) : Type 0 where
+pub record NodeFacts (c : List ℕ) (r : Option Element) : Type 0 where
   pub long : 2 ≤ length c
   pub wide_low : 1 ≤ get_or c 1 0
   pub wide_high : get_or c 1 0 ≤ 16
   pub width : (node_with c r).node.width ≡ get_or c 1 0
 
-width_is : (c : List ℕ) (r : ElementRead) → (node_with c r).good ≡ true → (node_with c r).node.width ≡ get_or c 1 0
-width_is c Bad e = absurd (false≢true e)
-width_is c (Found x) e = refl
+width_is : (c : List ℕ) (r : Option Element) → (node_with c r).good ≡ true → (node_with c r).node.width ≡ get_or c 1 0
+width_is c None e = absurd (false≢true e)
+width_is c (Some x) e = refl
 
 facts : (c : List ℕ) → (node_with c (element_read c)).good ≡ true → NodeFacts c (element_read c)
 unfolding element_read
@@ -34,10 +32,10 @@ facts c =
     arms_lt P _ _ 16 (get_or c 1 0) (λ _. no_way) (λ b e.
     record { long = l; wide_low = omega arith; wide_high = b; width = width_is c (kind_read (get_or c 0 0) c) e })))
   where
-    P : ElementRead → Type 0
+    P : Option Element → Type 0
     P r = (node_with c r).good ≡ true → NodeFacts c r
 
-    no_way : false ≡ true → NodeFacts c Bad
+    no_way : false ≡ true → NodeFacts c None
     no_way e = absurd (false≢true e)
 
 pub node_facts : (c : List ℕ) → (node_read c).good ≡ true → NodeFacts c (element_read c)

@@ -9,11 +9,9 @@ use Rattle.lists.proofs.BelowLaws.{true_or_false}
 use Rattle.lists.specs.Paths.{pick}
 use Rattle.lists.proofs.Paths.{arms}
 use Rattle.netlist.specs.Scan.{Step, Refuse, TableField, NodeField, EndField, table_step, node_step, end_step, step_at, Scan, refused, found, follow, walk, after_head, scan}
-use Rattle.netlist.specs.Verdict.{Stage, verdict, onward, reader_stages, reader_verdict}
+use Rattle.netlist.specs.Verdict.{Stage, verdict, onward, reader_stages, reader_verdict, Verdict, Fine, Refuses}
 use Rattle.netlist.specs.Net.{Net}
 use Rattle.netlist.specs.File.{net_in, decoded, decode, judged, file_verdict}
-use Rattle.netlist.specs.declared.Verdict.{Verdict}
-use Rattle.netlist.specs.declared.Verdict.TheVariants.{Fine, Refuses}
 use Rattle.netlist.specs.Numbers.{Says, SaysEach}
 
 module _ (P : ℕ → Type 0) where

@@ -9,8 +9,7 @@ use borrow.Author.Tests.{lt-ltb, ltb-true}
 use Rattle.lists.specs.Lists.{lowest}
 use Rattle.lists.proofs.BelowLaws.{true_or_false, lowest_from_is, lowest_all}
 use Rattle.lists.proofs.SearchLaws.{lowest_here}
-use Rattle.netlist.specs.Verdict.{at_lowest, Stage, verdict}
-use Rattle.netlist.specs.declared.Verdict.TheVariants.{Refuses}
+use Rattle.netlist.specs.Verdict.{at_lowest, Stage, verdict, Refuses}
 use Rattle.netlist.specs.Places.{LowestOf, Lacks}
 
 -- the search for a test finds it, and nothing else below n

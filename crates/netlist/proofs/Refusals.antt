@@ -12,11 +12,10 @@ use Rattle.netlist.specs.Rank.{Through}
 use Rattle.netlist.specs.Logic.{in_logic}
 use Rattle.netlist.proofs.Logic.{through_logic}
 use Rattle.netlist.specs.Checks.{SourcesRight, WidthsRight, HasReader, TableHasReader, TablesRead}
-use Rattle.netlist.specs.Verdict.{bad_source, bad_width, unread, unread_table, in_loop, in_ring, Stage, at_lowest, verdict, reader_stages, reader_verdict}
+use Rattle.netlist.specs.Verdict.{bad_source, bad_width, unread, unread_table, in_loop, in_ring, Stage, at_lowest, verdict, reader_stages, reader_verdict, Refuses}
 use Rattle.netlist.proofs.VerdictLaws.{six_is, seven_is, eight_is, seventeen_is, six_sourced}
 use Rattle.netlist.specs.Places.{LowestOf}
 use Rattle.netlist.proofs.Places.{breaks_is, skip, refuses_iff}
-use Rattle.netlist.specs.declared.Verdict.TheVariants.{Refuses}
 
 module _ (N : Net) where
   -- 17, 9 and 10

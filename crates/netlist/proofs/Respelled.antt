@@ -7,11 +7,10 @@ use Prim.Native.Nat.{ℕ, zero, suc}
 use Rattle.std.proofs.lemmas.List.{length-map}
 use Rattle.lists.specs.Lists.{any_below}
 use Rattle.netlist.specs.declared.Element.{Element}
-use Rattle.netlist.specs.declared.Verdict.{Verdict}
+use Rattle.netlist.specs.Verdict.{Verdict, table_there, no_source, bad_source, widths_right, bad_width, unread, table_in_use, unread_table, in_loop, in_ring, at_lowest, verdict, reader_stages, reader_verdict}
 use Rattle.netlist.specs.declared.Element.TheVariants.{Input, Output, Register, Async, Clocked, Gate}
 use Rattle.netlist.specs.Net.{Table, no_table, spelled, Net, size, node_at, element_at, width_at, source, operands, table_no}
 use Rattle.netlist.specs.Reach.{reads_test, reached_first, reached_next, reached_after, reaches_itself}
-use Rattle.netlist.specs.Verdict.{table_there, no_source, bad_source, widths_right, bad_width, unread, table_in_use, unread_table, in_loop, in_ring, at_lowest, verdict, reader_stages, reader_verdict}
 use Rattle.netlist.specs.Respelled.{AnswerAlike, TablesAlike, Respelled, over, spelled_table, spelled_net}
 
 pub respelled_is : {N M : Net} → Respelled N M → over M.tables N ≡ M

@@ -15,9 +15,7 @@ use Rattle.lists.proofs.BelowLaws.{T→true, true→T, true_or_false, and_left, 
 use Rattle.netlist.specs.Net.{Table, table_no, Net, size, element_at, width_at, source, operands, is_input, is_output, Class, in_registers, in_clock, Sourced}
 use Rattle.netlist.specs.Reach.{Reads, reads_test}
 use Rattle.netlist.specs.Reach.{reaches_itself}
-use Rattle.netlist.specs.declared.Verdict.{Verdict}
-use Rattle.netlist.specs.declared.Verdict.TheVariants.{Fine, Refuses}
-use Rattle.netlist.specs.Verdict.{table_there, bad_source, op_widths, memory_right, widths_right, bad_width, unread, reads_table, table_in_use, unread_table, in_loop, in_ring, Stage, verdict, onward, reader_stages, reader_verdict}
+use Rattle.netlist.specs.Verdict.{Verdict, Fine, Refuses, table_there, bad_source, op_widths, memory_right, widths_right, bad_width, unread, reads_table, table_in_use, unread_table, in_loop, in_ring, Stage, verdict, onward, reader_stages, reader_verdict}
 use Rattle.netlist.specs.Rank.{Through, once, then}
 use Rattle.netlist.specs.Checks.{OpWidths, MemoryWidths, ElementWidths, HasTable, table_in, SourcesRight, WidthsRight, HasReader, TableHasReader, FieldsFit, WellFormed, TablesRead}
 use Rattle.netlist.proofs.ReachLaws.{reaches_itself_iff}

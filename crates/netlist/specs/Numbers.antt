@@ -1,9 +1,7 @@
 -- The numbers that refusals have: what holds of each check's number holds of the number that is said. Assumes nothing.
 use mathlib.Core.List.{List, [], ◌∷◌}
 use Prim.Native.Nat.{ℕ}
-use Rattle.netlist.specs.Verdict.{Stage}
-use Rattle.netlist.specs.declared.Verdict.{Verdict}
-use Rattle.netlist.specs.declared.Verdict.TheVariants.{Fine, Refuses}
+use Rattle.netlist.specs.Verdict.{Stage, Verdict, Fine, Refuses}
 
 module _ (P : ℕ → Type 0) where
   -- a refusal's number is such a number

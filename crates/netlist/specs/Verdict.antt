@@ -5,12 +5,15 @@ use Rattle.words.specs.declared.Op.{Op}
 use Rattle.words.specs.declared.Op.TheVariants.{Constant, Not, And, Or, Xor, Add, Subtract, Equal, Less, Choose, Part, Join}
 use Rattle.netlist.specs.declared.Memory.{Memory}
 use Rattle.netlist.specs.declared.Element.{Element}
-use Rattle.netlist.specs.declared.Verdict.{Verdict}
-use Rattle.netlist.specs.declared.Verdict.TheVariants.{Fine, Refuses}
 use Rattle.netlist.specs.declared.Element.TheVariants.{Input, Output, Register, Async, Clocked, Gate}
 use Rattle.lists.specs.Lists.{any_below, lowest}
 use Rattle.netlist.specs.Net.{Table, no_table, table_no, table_of, Net, size, element_at, width_at, source, operands, is_input, is_output, is_memory, in_registers, in_clock}
 use Rattle.netlist.specs.Reach.{reads_test, reaches_itself}
+
+-- what checks say over a whole netlist: nothing, or the number of a refusal and its place
+pub data Verdict : Type 0 where
+  Fine : Verdict
+  Refuses : ℕ → ℕ → Verdict
 
 -- 6: no such node or table, or an output port as source
 abbrev pub table_there : List Table → Element → Bool

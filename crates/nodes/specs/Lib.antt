@@ -1,3 +1,4 @@
+pub mod Kind
 pub mod Room
 pub mod Unchecked
 pub mod Code

@@ -1,5 +1,5 @@
 -- A content that names an element has room for the element's sources.
-use Rattle.std.specs.Prelude.{ℕ, ◌+◌, ◌*◌, ◌≤◌, ◌<◌, ◌≡◌, List, Bool, true, cond, length, get_or, leb, eqb}
+use Rattle.std.specs.Prelude.{ℕ, ◌+◌, ◌*◌, ◌≤◌, ◌<◌, ◌≡◌, List, Bool, true, cond, length, get_or, leb, eqb, Option, Some, None}
 use Rattle.std.proofs.Common.{ap, subst, arith, leb→le, ne_eqb}
 use Rattle.lists.proofs.Paths.{arms, arms_lt, arms_eq}
 use Rattle.lists.proofs.TableRule.{at}
@@ -11,18 +11,14 @@ use Rattle.words.specs.declared.Op.{Op}
 use Rattle.netlist.specs.declared.Element.{Element}
 use Rattle.words.specs.declared.Op.TheVariants.{Constant, Part}
 use Rattle.netlist.specs.declared.Element.TheVariants.{Input, Output, Register, Async, Clocked}
-use Rattle.netlist.specs.declared.OpRead.{OpRead}
-use Rattle.netlist.specs.declared.OpRead.TheVariants as opread
-use Rattle.netlist.specs.declared.ElementRead.{ElementRead}
-use Rattle.netlist.specs.declared.ElementRead.TheVariants as elementread
 
-data OpRoom (n : ℕ) : OpRead → Type 0 where
-  no_op : OpRoom n opread.Bad
-  an_op : {op : Op} → 3 + 2 * operands_of op ≤ n → OpRoom n (opread.Found op)
+data OpRoom (n : ℕ) : Option Op → Type 0 where
+  no_op : OpRoom n None
+  an_op : {op : Op} → 3 + 2 * operands_of op ≤ n → OpRoom n (Some op)
 
-data Room (n : ℕ) : ElementRead → Type 0 where
-  no_element : Room n elementread.Bad
-  an_element : {e : Element} → first_source e + 2 * operands e ≤ n → Room n (elementread.Found e)
+data Room (n : ℕ) : Option Element → Type 0 where
+  no_element : Room n None
+  an_element : {e : Element} → first_source e + 2 * operands e ≤ n → Room n (Some e)
 
 -- at each number but 0 and 10 the table has the operation's count
 counted : ℕ → ℕ → Bool
@@ -49,7 +45,7 @@ op_room s =
     k : ℕ
     k = get_or s 2 0
 
-    P : OpRead → Type 0
+    P : Option Op → Type 0
     P = OpRoom (length s)
 
 kind_room : (k : ℕ) (s : List ℕ) → Room (length s) (kind_read k s)
@@ -65,12 +61,12 @@ kind_room k s =
     n : ℕ
     n = length s
 
-    P : ElementRead → Type 0
+    P : Option Element → Type 0
     P = Room (length s)
 
-    gate : (o : OpRead) → OpRoom (length s) o → Room (length s) (gate_read o)
-    gate opread.Bad r = no_element
-    gate (opread.Found op) (an_op h) = an_element h
+    gate : (o : Option Op) → OpRoom (length s) o → Room (length s) (gate_read o)
+    gate None r = no_element
+    gate (Some op) (an_op h) = an_element h
 
 element_room : (s : List ℕ) → Room (length s) (element_read s)
 unfolding element_read
@@ -79,23 +75,23 @@ element_room s =
     arms (Room (length s)) _ _ _ (λ _. no_element) (λ _.
     arms (Room (length s)) _ _ _ (λ _. no_element) (λ _. kind_room (get_or s 0 0) s)))
 
-found : {n : ℕ} {e : Element} → Room n (elementread.Found e) → first_source e + 2 * operands e ≤ n
+found : {n : ℕ} {e : Element} → Room n (Some e) → first_source e + 2 * operands e ≤ n
 found (an_element h) = h
 
-pub room : (s : List ℕ) (e : Element) → element_read s ≡ elementread.Found e → first_source e + 2 * operands e ≤ length s
+pub room : (s : List ℕ) (e : Element) → element_read s ≡ Some e → first_source e + 2 * operands e ≤ length s
 room s e p = found (subst (Room (length s)) p (element_room s))
 
 -- a content that names an element has a kind and a width
-data Wide (n : ℕ) : ElementRead → Type 0 where
-  bad : Wide n elementread.Bad
-  wide : (r : ElementRead) → 2 ≤ n → Wide n r
+data Wide (n : ℕ) : Option Element → Type 0 where
+  bad : Wide n None
+  wide : (r : Option Element) → 2 ≤ n → Wide n r
 
 element_wide : (s : List ℕ) → Wide (length s) (element_read s)
 unfolding element_read
 element_wide s = arms_lt (Wide (length s)) _ _ _ _ (λ _. bad) (λ h. wide _ h)
 
-wide_found : {n : ℕ} {e : Element} → Wide n (elementread.Found e) → 2 ≤ n
+wide_found : {n : ℕ} {e : Element} → Wide n (Some e) → 2 ≤ n
 wide_found (wide r h) = h
 
-pub two : (s : List ℕ) (e : Element) → element_read s ≡ elementread.Found e → 2 ≤ length s
+pub two : (s : List ℕ) (e : Element) → element_read s ≡ Some e → 2 ≤ length s
 two s e p = wide_found (subst (Wide (length s)) p (element_wide s))

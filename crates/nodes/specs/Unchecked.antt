@@ -1,5 +1,5 @@
 -- A well made content, read again without its checks. Assumes nothing.
-use Rattle.std.specs.Prelude.{◌≡◌, refl, true, List, ℕ, ◌≤◌, length, get_or, eqb}
+use Rattle.std.specs.Prelude.{◌≡◌, refl, true, List, ℕ, ◌≤◌, length, get_or, eqb, Option, Some, None}
 use Rattle.std.proofs.Common.{sym, ap, ◌∙◌, arith}
 use Rattle.std.proofs.lemmas.Bool.{false≢true}
 use Rattle.lists.specs.Paths.{pick}
@@ -11,10 +11,6 @@ use Rattle.netlist.specs.Net.{rom}
 use Rattle.netlist.specs.NodeField.{gate_length, plain_op, op_read, gate_read, kind_read, element_read, node_with, node_read}
 use Rattle.netlist.specs.declared.Element.{Element}
 use Rattle.netlist.specs.declared.Element.TheVariants.{Input, Output, Register, Async, Clocked, Gate}
-use Rattle.netlist.specs.declared.OpRead.{OpRead}
-use Rattle.netlist.specs.declared.OpRead.TheVariants as opread
-use Rattle.netlist.specs.declared.ElementRead.{ElementRead}
-use Rattle.netlist.specs.declared.ElementRead.TheVariants.{Bad, Found}
 
 -- the operation by its number, the element by its kind
 abbrev pub op_unchecked : List ℕ → Op
@@ -40,9 +36,9 @@ pub record Lengths (c : List ℕ) : Type 0 where
 
 -- ---- the operation
 
-data OpIs (c : List ℕ) : OpRead → Type 0 where
-  no_op : OpIs c opread.Bad
-  an_op : {o : Op} → o ≡ op_unchecked c → get_or c 2 0 ≤ 11 → length c ≡ gate_length (get_or c 2 0) → OpIs c (opread.Found o)
+data OpIs (c : List ℕ) : Option Op → Type 0 where
+  no_op : OpIs c None
+  an_op : {o : Op} → o ≡ op_unchecked c → get_or c 2 0 ≤ 11 → length c ≡ gate_length (get_or c 2 0) → OpIs c (Some o)
 
 op_is : (c : List ℕ) → OpIs c (op_read c)
 unfolding op_read
@@ -57,14 +53,14 @@ op_is c =
     (λ f. an_op (off_eq _ _ (get_or c 2 0) 0 d (off_eq _ _ (get_or c 2 0) 10 f refl)) h l)))
     (λ _. no_op)))
   where
-    P : OpRead → Type 0
+    P : Option Op → Type 0
     P = OpIs c
 
 -- ---- the element
 
-data ElementIs (c : List ℕ) : ElementRead → Type 0 where
-  no_element : ElementIs c Bad
-  an_element : {e : Element} → e ≡ element_unchecked c → Lengths c → ElementIs c (Found e)
+data ElementIs (c : List ℕ) : Option Element → Type 0 where
+  no_element : ElementIs c None
+  an_element : {e : Element} → e ≡ element_unchecked c → Lengths c → ElementIs c (Some e)
 
 -- past the kinds below its own
 module _ (c : List ℕ) {z : Element} where
@@ -114,12 +110,12 @@ kind_is c =
     k : ℕ
     k = get_or c 0 0
 
-    P : ElementRead → Type 0
+    P : Option Element → Type 0
     P = ElementIs c
 
-    of_op : get_or c 0 0 ≡ 5 → (o : OpRead) → OpIs c o → ElementIs c (gate_read o)
-    of_op e opread.Bad q = no_element
-    of_op e (opread.Found o) (an_op q h l) = an_element (is_gate c e (ap Gate q)) (record {
+    of_op : get_or c 0 0 ≡ 5 → (o : Option Op) → OpIs c o → ElementIs c (gate_read o)
+    of_op e None q = no_element
+    of_op e (Some o) (an_op q h l) = an_element (is_gate c e (ap Gate q)) (record {
       register = λ x. absurd (omega arith);
       async = λ x. absurd (omega arith);
       clocked = λ x. absurd (omega arith);
@@ -133,11 +129,11 @@ unfolding element_read
 element_is c = arms (ElementIs c) _ _ _ (λ _. no_element) (λ _. arms (ElementIs c) _ _ _ (λ _. no_element) (λ _. arms (ElementIs c) _ _ _ (λ _. no_element) (λ _. kind_is c)))
 
 module _ (c : List ℕ) where
-  good_is : (r : ElementRead) → ElementIs c r → (node_with c r).good ≡ true → (r ≡ Found (element_unchecked c)) × Lengths c
-  good_is Bad x e = absurd (false≢true e)
-  good_is (Found z) (an_element q l) e = (ap Found q, l)
+  good_is : (r : Option Element) → ElementIs c r → (node_with c r).good ≡ true → (r ≡ Some (element_unchecked c)) × Lengths c
+  good_is None x e = absurd (false≢true e)
+  good_is (Some z) (an_element q l) e = (ap Some q, l)
 
-  pub unchecked : (node_read c).good ≡ true → element_read c ≡ Found (element_unchecked c)
+  pub unchecked : (node_read c).good ≡ true → element_read c ≡ Some (element_unchecked c)
   unfolding node_read
   unchecked e = (good_is (element_read c) (element_is c) e).0
 

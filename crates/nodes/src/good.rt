@@ -4,31 +4,28 @@ ghost use Rattle.words.specs.Words.{word};
 ghost use Rattle.netlist.specs.declared.Element.{Element};
 ghost use Rattle.netlist.specs.NodeField.{extra, gate_length, op_read, gate_read, with_length, with_reset, kind_read, node_with, node_read};
 
+use super::kind::Kind;
+use super::{CONSTANT, PART};
 use words::{fits_width, operand_count, word_at};
 
-pub fn wide8(x: u8) -> usize
-    ensures { (result ≡ x) × (result ≤ 255) }
-{
-    x as usize
-}
-
 // What the content of a gate holds after its sources: a constant two bytes, a part one.
-fn held(op: usize) -> usize
-    ensures { (result ≡ extra op) × (result ≤ 2) }
+fn held(op: u8) -> usize
+    ensures held { result ≡ extra op }
+    ensures few { result ≤ 2 }
 {
     match op {
-        0 => 2,
-        10 => 1,
+        CONSTANT => 2,
+        PART => 1,
         _ => 0,
     }
 }
 
 // How long the content of a gate is, by the number of its operation.
-fn gate_length(op: usize) -> usize
+fn gate_length(op: u8) -> usize
     requires { op < 12 }
     ensures { result ≡ gate_length op }
 {
-    3 + 2 * operand_count(op) + held(op)
+    3 + 2 * operand_count(op as usize) + held(op)
 }
 
 // A gate: a known operation, the right length, a constant that fits.
@@ -43,10 +40,10 @@ fn op_good(s: &[u8]) -> bool
     if 11 < op {
         return false;
     }
-    if s.len() != gate_length(wide8(op)) {
+    if s.len() != gate_length(op) {
         return false;
     }
-    if op == 0 {
+    if op == CONSTANT {
         fits_width(word_at(s, 3), s[1])
     } else {
         true
@@ -55,7 +52,8 @@ fn op_good(s: &[u8]) -> bool
 
 // What has a reset word: the right length, and a word that fits.
 fn reset_good(s: &[u8], size: usize, place: usize) -> bool
-    requires { (get_or s.now 1 0 ≤ 16) × (place + 1 < size) }
+    requires width { get_or s.now 1 0 ≤ 16 }
+    requires within { place + 1 < size }
     ensures { (e : Element) → result ≡ (node_with s.now (with_length s.now size (with_reset s.now (word s.now place) e))).good }
 {
     if s.len() == size {
@@ -67,18 +65,18 @@ fn reset_good(s: &[u8], size: usize, place: usize) -> bool
 
 // By the kind.
 fn kind_good(s: &[u8]) -> bool
-    requires { (2 ≤ length s.now) × (get_or s.now 1 0 ≤ 16) }
+    requires begun { 2 ≤ length s.now }
+    requires width { get_or s.now 1 0 ≤ 16 }
     ensures { result ≡ (node_with s.now (kind_read (get_or s.now 0 0) s.now)).good }
 {
-    let kind = s[0];
-    match kind {
-        0 => s.len() == 2,
-        1 => s.len() == 4,
-        2 => reset_good(s, 6, 4),
-        3 => s.len() == 5,
-        4 => reset_good(s, 7, 5),
-        5 => op_good(s),
-        _ => false,
+    match Kind::try_from(s[0]) {
+        Ok(Kind::Input) => s.len() == 2,
+        Ok(Kind::Output) => s.len() == 4,
+        Ok(Kind::Register) => reset_good(s, 6, 4),
+        Ok(Kind::Async) => s.len() == 5,
+        Ok(Kind::Clocked) => reset_good(s, 7, 5),
+        Ok(Kind::Gate) => op_good(s),
+        Err(_) => false,
     }
 }
 

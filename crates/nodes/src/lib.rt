@@ -2,6 +2,7 @@
 #![tactic(auto)]
 
 pub mod good;
+pub mod kind;
 
 ghost use Rattle.std.specs.Prelude.{◌≡◌, ◌+◌, ◌*◌, ◌<◌, ◌≤◌, length, ltb};
 ghost use Rattle.lists.specs.Paths.{pick};
@@ -11,9 +12,15 @@ ghost use Rattle.netlist.specs.NodeField.{op_number, plain_op, sources_from};
 
 use words::{Op, operand_count, word_at};
 
-// The operation that is its number alone.
+// The operations that hold more than their number.
+pub const CONSTANT: u8 = 0;
+
+pub const PART: u8 = 10;
+
+// The operation that is its number alone. No TryFrom: whoever calls knows that the number is one, and 0 and 10 tell only half of an operation.
 pub fn plain_op(k: u8) -> Op
-    requires { (0 < k) × (k < 12) }
+    requires some { 0 < k }
+    requires known { k < 12 }
     ensures { result ≡ plain_op k }
 {
     match k {
@@ -30,12 +37,13 @@ pub fn plain_op(k: u8) -> Op
     }
 }
 
-// The number of an operation.
+// The number of an operation: it is the index into the table of twelve counts.
 pub fn op_index(op: Op) -> usize
-    ensures { (result ≡ op_number op) × (result < 12) }
+    ensures number { result ≡ op_number op }
+    ensures few { result < 12 }
 {
     match op {
-        Op::Constant(_) => 0,
+        Op::Constant(_) => CONSTANT as usize,
         Op::Not => 1,
         Op::And => 2,
         Op::Or => 3,
@@ -45,7 +53,7 @@ pub fn op_index(op: Op) -> usize
         Op::Equal => 7,
         Op::Less => 8,
         Op::Choose => 9,
-        Op::Part(_) => 10,
+        Op::Part(_) => PART as usize,
         Op::Join => 11,
     }
 }
@@ -70,7 +78,8 @@ pub type Sources = [u16; 3];
 
 // At most three sources, from the place of the first.
 pub fn sources_from(s: &[u8], at: usize, n: usize) -> Sources
-    requires { (at + 2 * n ≤ length s.now) × (n ≤ 3) }
+    requires room { at + 2 * n ≤ length s.now }
+    requires few { n ≤ 3 }
     ensures { result ≡ sources_from s.now at n }
 {
     let first = word_if(s, at, 0, n);

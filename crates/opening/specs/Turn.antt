@@ -1,39 +1,36 @@
 -- A file is read field by field into a circuit: what holds between two fields, and what a field makes of it. Assumes nothing.
-use Rattle.std.specs.Prelude.{◌≡◌, true, false, List, [], ◌∷◌, ◌++◌, map, ℕ, zero, suc, ◌+◌, ◌≤◌, ◌<◌, length, eqb}
+use Rattle.std.specs.Prelude.{◌≡◌, true, false, List, [], ◌∷◌, ◌++◌, map, ℕ, zero, suc, ◌+◌, ◌≤◌, ◌<◌, length, Result, Ok, Err}
 use Rattle.std.proofs.Math.Path.{refl, sym, ap}
-use Rattle.std.proofs.Common.{ap₂, subst, ◌∙◌, arith, length-append, eq-eqb}
+use Rattle.std.proofs.Common.{ap₂, subst, ◌∙◌, arith, length-append}
 use Rattle.std.proofs.lemmas.List.{length-map}
 use Rattle.lists.proofs.ListsLaws.{no_length, map-append}
-use Rattle.lists.specs.Paths.{pick}
-use Rattle.lists.proofs.Paths.{arms, on_true, on_lt, off_lt, on_eq, off_eq}
-use Rattle.netlist.specs.Scan.{table_step, node_step, end_step, Step, Refuse, TableField, NodeField, EndField, refused, found, follow, step_at, walk, scan}
+use Rattle.lists.proofs.Paths.{on_lt, off_lt}
+use Rattle.netlist.specs.Scan.{table_step, node_step, Step, Refuse, TableField, NodeField, EndField, refused, found, follow, step_at, walk, after_head, scan}
 use Rattle.netlist.specs.ScanLaws.{NodeAt}
 use Rattle.netlist.proofs.ScanLaws.{table_step_lem, node_step_lem, walk_step, scan_found}
 use Rattle.netlist.specs.File.{bad, good, node_in, net_in, decode, decoded}
 use Rattle.netlist.specs.declared.Node.{Node}
-use Rattle.netlist.specs.declared.Verdict.{Verdict}
-use Rattle.netlist.specs.declared.Verdict.TheVariants.{Fine, Refuses}
-use Rattle.circuit.specs.Circuit.{nodes_of}
+use Rattle.netlist.specs.declared.Refusal.{Refusal}
+use Rattle.netlist.specs.Refusal.{number_of, place_of}
+use Rattle.circuit.specs.Circuit.{nodes_of, net_of, Circuit}
 use Rattle.circuit.specs.Building.{Pushed, Built}
 use Rattle.circuit.proofs.Building.{built_net, built_circuit}
 use Rattle.reader.specs.Head.{Headed}
-use Rattle.reader.specs.Fields.{whole, table_stands, node_stands, last_step, verdict_of, step_table, step_node, step_last}
-use Rattle.opening.specs.declared.Read.{Read}
-use Rattle.opening.specs.declared.Read.TheVariants.{Behind, Bad}
-use Rattle.opening.specs.Opening.{Filled, turned_away, read, filled-refused, built_node}
+use Rattle.reader.specs.Fields.{table_stands, node_stands, stepped, last_step, step_table, step_node, step_last}
+use Rattle.opening.specs.Opening.{built_node}
 
-module _ (s l : List ℕ) where
-  refusal : {k p : ℕ} → refused k p ≡ scan s → Filled s l (Refuses k p)
+module _ (s : List ℕ) where
+  refusal : {k p : ℕ} → refused k p ≡ scan s → decode s ≡ bad k p
   unfolding decode
-  refusal e = turned_away (ap (decoded s) (sym e))
+  refusal e = ap (decoded s) (sym e)
 
-  pub too_long : 46000 < length s → Filled s l (Refuses 1 0)
+  pub too_long : 46000 < length s → decode s ≡ bad 1 0
   unfolding scan
   too_long h = refusal (on_lt _ _ 46000 (length s) h refl)
 
-  pub bad_head : (r : ℕ) → length s ≤ 46000 → Headed s r → (r ≡ 0 → ⊥) → Filled s l (Refuses r 0)
+  pub bad_head : {k p : ℕ} → length s ≤ 46000 → after_head s ≡ refused k p → decode s ≡ bad k p
   unfolding scan
-  bad_head r k h n = refusal (off_lt _ _ 46000 (length s) k (off_eq _ _ r 0 n refl ∙ sym h.goes))
+  bad_head h e = refusal (off_lt _ _ 46000 (length s) h (sym e))
 
 -- the reading has come to an offset, with t tables and n nodes before it, which the circuit shows
 pub record Turn (s l : List ℕ) (at t n : ℕ) : Type 0 where
@@ -50,10 +47,10 @@ pub record Turn (s l : List ℕ) (at t n : ℕ) : Type 0 where
   pub enough : length s < fuel + at
   pub goes : walk fuel s at tables nodes ≡ scan s
 
-pub start : (s l : List ℕ) (r : ℕ) → length s ≤ 46000 → Headed s r → r ≡ 0 → Built [] [] l → Turn s l 4 0 0
+pub start : (s l : List ℕ) → length s ≤ 46000 → Headed s → Built [] [] l → Turn s l 4 0 0
 unfolding scan
-start s l r k h z b = record {
-  inside = h.room z;
+start s l k h b = record {
+  inside = h.room;
   small = k;
   few_tables = omega arith;
   few_nodes = omega arith;
@@ -64,29 +61,29 @@ start s l r k h z b = record {
   built = b;
   fuel = length s;
   enough = omega arith;
-  goes = off_lt _ _ 46000 (length s) k (on_true _ _ (eqb r 0) (eq-eqb r 0 z) refl ∙ sym h.goes);
+  goes = off_lt _ _ 46000 (length s) k (sym h.goes);
 }
 
 module _ {s l : List ℕ} {at t n : ℕ} (w : Turn s l at t n) where
   -- the walk takes the step that stands at the offset
-  stepped : (f : ℕ) → w.fuel ≡ f → (x : Step) → step_at s at t n ≡ x
+  walked : (f : ℕ) → w.fuel ≡ f → (x : Step) → step_at s at t n ≡ x
       → (g : ℕ) × (length s < suc g + at) × (follow x (found w.tables w.nodes) (λ next. walk g s next (w.tables ++ (at ∷ [])) w.nodes) (λ next. walk g s next w.tables (w.nodes ++ (at ∷ []))) ≡ scan s)
-  stepped zero e x p = absurd (let h = w.enough in let i = w.inside in omega arith)
-  stepped (suc g) e x p = (
+  walked zero e x p = absurd (let h = w.enough in let i = w.inside in omega arith)
+  walked (suc g) e x p = (
     g,
     subst (λ (k : ℕ). length s < k + at) e w.enough,
     sym (walk_step g s at w.tables w.nodes x (ap₂ (step_at s at) (sym w.table_count) (sym w.node_count) ∙ p)) ∙ ap (λ (k : ℕ). walk k s at w.tables w.nodes) (sym e) ∙ w.goes,
   )
 
-  pub refuses : {k p : ℕ} → step_at s at t n ≡ Refuse k p → Filled s l (Refuses k p)
-  refuses {k} {p} e = refusal s l (stepped w.fuel refl (Refuse k p) e).2
+  pub refuses : {k p : ℕ} → step_at s at t n ≡ Refuse k p → decode s ≡ bad k p
+  refuses {k} {p} e = refusal s (walked w.fuel refl (Refuse k p) e).2
 
-  pub ends : step_at s at t n ≡ EndField → Filled s l Fine
+  pub ends : step_at s at t n ≡ EndField → (decode s ≡ good (net_of s l)) × Circuit s l
   unfolding decode net_in
   ends e =
-      let q = sym (stepped w.fuel refl EndField e).2 in
+      let q = sym (walked w.fuel refl EndField e).2 in
       let f = scan_found s w.tables w.nodes q in
-      read (ap (decoded s) q ∙ ap good (sym (built_net s w.built))) (built_circuit s w.built f.short f.tables)
+      (ap (decoded s) q ∙ ap good (sym (built_net s w.built)), built_circuit s w.built f.short f.tables)
 
   pub table_bounds : {next : ℕ} → step_at s at t n ≡ TableField next → (at + 3 ≤ next) × (next ≤ length s) × (t < 16)
   table_bounds {next} e =
@@ -112,7 +109,7 @@ module _ {s l : List ℕ} {at t n : ℕ} (w : Turn s l at t n) where
   pub table_turns : {next : ℕ} {m : List ℕ} → step_at s at t n ≡ TableField next → ((ts : List ℕ) → t ≡ length ts → Built ts [] l → Built (ts ++ (at ∷ [])) [] m) → Turn s m next (t + 1) n
   table_turns {next} {m} e more =
       let b = table_bounds e in
-      let f = stepped w.fuel refl (TableField next) e in
+      let f = walked w.fuel refl (TableField next) e in
       let g = f.1 in
       record {
         inside = b.1;
@@ -135,7 +132,7 @@ module _ {s l : List ℕ} {at t n : ℕ} (w : Turn s l at t n) where
   pub node_turns : {next : ℕ} {m : List ℕ} {x : Node} → step_at s at t n ≡ NodeField next → x ≡ node_in s at → Pushed l x m → Turn s m next t (n + 1)
   node_turns {next} {m} {x} e is p =
       let b = node_bounds e in
-      let f = stepped w.fuel refl (NodeField next) e in
+      let f = walked w.fuel refl (NodeField next) e in
       let g = f.1 in
       record {
         inside = b.1;
@@ -154,54 +151,46 @@ module _ {s l : List ℕ} {at t n : ℕ} (w : Turn s l at t n) where
 
 -- ---- the tables, the nodes, and what stands behind them
 
--- all tables are read: one is bad (4), or no other stands there
-pub data TablesRead (s l : List ℕ) : Read → Type 0 where
-  bad_table : {p : ℕ} → decode s ≡ bad 4 p → TablesRead s l (Bad p)
-  tables-read : {at : ℕ} (t : ℕ) → Turn s l at t 0 → table_stands s at ≡ false → TablesRead s l (Behind at)
+-- all tables are read: no other stands there
+pub record TablesRead (s l : List ℕ) (at : ℕ) : Type 0 where
+  pub count : ℕ
+  pub turn : Turn s l at count 0
+  pub none : table_stands s at ≡ false
 
--- all nodes are read: one is bad (5), or no other stands there
-pub data NodesRead (s l : List ℕ) : Read → Type 0 where
-  bad_node : {p : ℕ} → decode s ≡ bad 5 p → NodesRead s l (Bad p)
-  nodes-read : {at : ℕ} (t n : ℕ) → Turn s l at t n → (n ≡ 0 → table_stands s at ≡ false) → node_stands s at ≡ false → NodesRead s l (Behind at)
+-- all nodes are read: no other stands there
+pub record NodesRead (s l : List ℕ) (at : ℕ) : Type 0 where
+  pub tables : ℕ
+  pub count : ℕ
+  pub turn : Turn s l at tables count
+  pub first : count ≡ 0 → table_stands s at ≡ false
+  pub none : node_stands s at ≡ false
 
-pub table_bad : {s l : List ℕ} {p : ℕ} → TablesRead s l (Bad p) → Filled s l (Refuses 4 p)
-table_bad (bad_table e) = turned_away e
+-- a table that stands there is refused, or read
+module _ {s l : List ℕ} {at t : ℕ} (w : Turn s l at t 0) (stands : table_stands s at ≡ true) where
+  pub table-refused : (r : Refusal) → table_step s at t 0 ≡ stepped TableField (Err r) → decode s ≡ bad (number_of r) (place_of r)
+  table-refused r e = refuses w (step_table s at t 0 stands ∙ e)
 
-pub node_bad : {s l : List ℕ} {p : ℕ} → NodesRead s l (Bad p) → Filled s l (Refuses 5 p)
-node_bad (bad_node e) = turned_away e
+  pub table_taken : {next : ℕ} → table_step s at t 0 ≡ stepped TableField (Ok next) → step_at s at t 0 ≡ TableField next
+  table_taken e = step_table s at t 0 stands ∙ e
 
-pub behind-tables : {s l : List ℕ} {at : ℕ} → TablesRead s l (Behind at) → (t : ℕ) × Turn s l at t 0 × (table_stands s at ≡ false)
-behind-tables (tables-read t w e) = (t, w, e)
+-- and a node
+module _ {s l : List ℕ} {at t n : ℕ} (w : Turn s l at t n) (stands : node_stands s at ≡ true) where
+  pub node_refused : (r : Refusal) → node_step s at n ≡ stepped NodeField (Err r) → decode s ≡ bad (number_of r) (place_of r)
+  node_refused r e = refuses w (step_node s at t n stands ∙ e)
 
-pub behind_inside : {s l : List ℕ} {at : ℕ} → NodesRead s l (Behind at) → (length s ≤ 46000) × (at ≤ length s)
-behind_inside (nodes-read t n w e f) = (w.small, w.inside)
+  pub node_taken : {next : ℕ} → node_step s at n ≡ stepped NodeField (Ok next) → step_at s at t n ≡ NodeField next
+  node_taken e = step_node s at t n stands ∙ e
 
-module _ {s l : List ℕ} {at t : ℕ} (w : Turn s l at t 0) (stands : table_stands s at ≡ true) {r : ℕ} (told : table_step s at t 0 ≡ pick (eqb r 0) (Refuse 4 at) (TableField r)) where
-  -- a table that stands there is refused, or read
-  pub table-refused : r ≡ 0 → decode s ≡ bad 4 at
-  table-refused z = filled-refused (refuses w (step_table s at t 0 stands ∙ told ∙ sym (on_eq _ _ r 0 z refl))) refl
+-- what stands behind both
+abbrev end_stepped : Result (Unit {0}) Refusal → Step
+end_stepped r = stepped (λ _. EndField) r
 
-  pub table_taken : (r ≡ 0 → ⊥) → step_at s at t 0 ≡ TableField r
-  table_taken z = step_table s at t 0 stands ∙ told ∙ sym (off_eq _ _ r 0 z refl)
+module _ {s l : List ℕ} {at : ℕ} (m : NodesRead s l at) where
+  step_end : step_at s at m.tables m.count ≡ last_step s at
+  step_end = step_last s at m.tables m.count m.first m.none
 
-module _ {s l : List ℕ} {at t n : ℕ} (w : Turn s l at t n) (stands : node_stands s at ≡ true) {r : ℕ} (told : node_step s at n ≡ pick (eqb r 0) (Refuse 5 at) (NodeField r)) where
-  -- and a node
-  pub node_refused : r ≡ 0 → decode s ≡ bad 5 at
-  node_refused z = filled-refused (refuses w (step_node s at t n stands ∙ told ∙ sym (on_eq _ _ r 0 z refl))) refl
+  pub end-refused : (r : Refusal) → last_step s at ≡ end_stepped (Err r) → decode s ≡ bad (number_of r) (place_of r)
+  end-refused r e = refuses m.turn (step_end ∙ e)
 
-  pub node_taken : (r ≡ 0 → ⊥) → step_at s at t n ≡ NodeField r
-  node_taken z = step_node s at t n stands ∙ told ∙ sym (off_eq _ _ r 0 z refl)
-
--- what stands behind both is the file's verdict
-pub last_filled : {s l : List ℕ} {at : ℕ} {r : Verdict} → NodesRead s l (Behind at) → r ≡ verdict_of (last_step s at) → Filled s l r
-unfolding last_step end_step
-last_filled {s} {l} {at} {r} (nodes-read t n w no_table_lem no_Node) e = subst (Filled s l) (sym e) (told (step_last s at t n no_table_lem no_Node))
-  where
-    P : Step → Type 0
-    P x = step_at s at t n ≡ x → Filled s l (verdict_of x)
-
-    told : P (last_step s at)
-    told =
-        arms P _ _ (whole s at)
-        (λ _. arms P _ _ _ (λ _. arms P _ _ _ (λ _. arms P _ _ _ (λ _. ends w) (λ _. refuses w)) (λ _. refuses w)) (λ _. refuses w))
-        (λ _. refuses w)
+  pub end_taken : {u : Unit {0}} → last_step s at ≡ end_stepped (Ok u) → (decode s ≡ good (net_of s l)) × Circuit s l
+  end_taken e = ends m.turn (step_end ∙ e)

@@ -11,7 +11,8 @@ use reader::width_at;
 // The row of the node whose field stands at an offset.
 pub fn row_at(file: &[u8], at: usize) -> Row
     requires { NodeAt file.now at }
-    ensures { Fits result × (row_node result ≡ node_in file.now at) }
+    ensures fits { Fits result }
+    ensures node { row_node result ≡ node_in file.now at }
 {
     let code = code_at(file, at);
     let count = count_by_code(code);

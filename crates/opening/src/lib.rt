@@ -2,116 +2,83 @@
 #![tactic(auto)]
 
 mod fields;
-pub mod rows;
 
-ghost use Rattle.std.specs.Prelude.{◌≡◌, List, [], ◌∷◌, ◌++◌, ℕ, ◌<◌, ◌≤◌, length};
+ghost use Rattle.std.specs.Prelude.{◌≡◌, List, [], ◌∷◌, ◌++◌, ℕ, ◌<◌, ◌≤◌, length, IfOk, IfErr};
+ghost use Rattle.netlist.specs.Refusal.{number_of, place_of};
+ghost use Rattle.netlist.specs.File.{bad, decode};
 ghost use Rattle.circuit.specs.Circuit.{circuit_words, tables_of, Circuit};
 ghost use Rattle.circuit.specs.Building.{Built};
 ghost use Rattle.reader.specs.Head.{Headed};
-ghost use Rattle.opening.specs.Opening.{Filled};
+ghost use Rattle.opening.specs.Opening.{FilledAs};
 ghost use Rattle.opening.specs.Turn.{TablesRead, NodesRead};
 
-use circuit::{push_row, table_count};
+use circuit::{Draft, push_row};
 use fields::row_at;
-use netlist::Verdict;
-use reader::{head_refusal, last_verdict, node_end, node_stands, table_end, table_stands};
-
-// The head of a circuit with no node, and the tables of another.
-pub fn copy_head(file: &[u8], net: &[u16], new: &mut [u16])
-    requires { Circuit file.now net.now × (circuit_words ≤ length new.old) }
-    ensures { Built (tables_of net.now) [] new.new }
-{
-    let n = table_count(file, net);
-    new[0] = 0;
-    new[1] = n as u16;
-    let mut t: usize = 0;
-    while t < n {
-        new[2 + t] = net[2 + t];
-        t = t + 1;
-    }
-}
+use netlist::Refusal;
+use reader::{check_end, check_head, node_end, node_stands, table_end, table_stands};
 
 // Enters the place of a table after t tables, where there is no node yet.
 fn put_table(net: &mut [u16], t: usize, at: u16)
-    requires { (t < 16) × (circuit_words ≤ length net.old) }
+    requires few { t < 16 }
+    requires room { circuit_words ≤ length net.old }
     ensures { (ts : List ℕ) → t ≡ length ts → Built ts [] net.old → Built (ts ++ (at ∷ [])) [] net.new }
 {
     net[1] = (t + 1) as u16;
     net[2 + t] = at;
 }
 
-// How far a list of fields is read: up to the offset behind them, or up to a bad one, with its place.
-#[derive(Clone, Copy)]
-enum Read {
-    Behind(usize),
-    Bad(u16),
-}
-
-// Reads the tables, which stand behind the head. A bad one is 4.
-fn fill_tables(file: &[u8], net: &mut [u16]) -> Read
-    requires { (length file.now ≤ 46000) × Headed file.now 0 × (circuit_words ≤ length net.old) }
-    ensures { TablesRead file.now net.new result }
+// Reads the tables, which stand behind the head: where the fields behind them begin.
+fn fill_tables(file: &[u8], net: &mut [u16]) -> Result<usize, Refusal>
+    requires small { length file.now ≤ 46000 }
+    requires headed { Headed file.now }
+    requires room { circuit_words ≤ length net.old }
+    ensures ok { IfOk result (λ at. TablesRead file.now net.new at) }
+    ensures err { IfErr result (λ r. decode file.now ≡ bad (number_of r) (place_of r)) }
 {
     net[0] = 0;
     net[1] = 0;
     let mut at: usize = 4;
     let mut t: usize = 0;
+    // It ends where no table stands, which is no counter.
     while table_stands(file, at) {
-        let next = table_end(file, at, t);
-        if next == 0 {
-            return Read::Bad(at as u16);
-        }
+        let next = table_end(file, at, t)?;
         put_table(net, t, at as u16);
-        t = t + 1;
+        t += 1;
         at = next;
     }
-    Read::Behind(at)
+    Ok(at)
 }
 
-// Reads the nodes, which stand behind the tables. A bad one is 5. (Their loop has no table in it: it is the one that takes time.)
-fn fill_nodes(file: &[u8], net: &mut [u16], from: usize) -> Read
-    requires { TablesRead file.now net.old (Read.Behind from) }
-    ensures { NodesRead file.now net.new result }
+// Reads the nodes, which stand behind the tables: where the fields behind them begin. (Their loop has no table in it: it is the one that takes time.)
+fn fill_nodes(file: &[u8], net: &mut [u16], from: usize) -> Result<usize, Refusal>
+    requires { TablesRead file.now net.old from }
+    ensures ok { IfOk result (λ at. NodesRead file.now net.new at) }
+    ensures err { IfErr result (λ r. decode file.now ≡ bad (number_of r) (place_of r)) }
 {
     let mut at = from;
     let mut n: usize = 0;
+    // It ends where no node stands, which is no counter.
     while node_stands(file, at) {
-        let next = node_end(file, at, n);
-        if next == 0 {
-            return Read::Bad(at as u16);
-        }
+        let next = node_end(file, at, n)?;
         push_row(net, n, row_at(file, at));
-        n = n + 1;
+        n += 1;
         at = next;
     }
-    Read::Behind(at)
+    Ok(at)
 }
 
-// What stands behind the tables: nodes, then the end.
-fn fill_rest(file: &[u8], net: &mut [u16], at: usize) -> Verdict
-    requires { TablesRead file.now net.old (Read.Behind at) }
-    ensures { Filled file.now net.new result }
-{
-    match fill_nodes(file, net, at) {
-        Read::Bad(place) => Verdict::Refuses(5, place),
-        Read::Behind(end) => last_verdict(file, end),
-    }
-}
-
-// Checks 1 to 5, and the circuit of the file's netlist: each field is read once. After a refusal nothing is said of the circuit.
-pub fn fill_circuit(file: &[u8], net: &mut [u16]) -> Verdict
+// Checks 1 to 5, and the circuit of the file's netlist: each field is read once. After a refusal nothing is said of the room lent.
+pub fn fill_circuit<'f, 'n>(file: &'f [u8], net: &'n mut [u16]) -> Result<Draft<'f, 'n>, Refusal>
     requires { circuit_words ≤ length net.old }
-    ensures { Filled file.now net.new result }
+    ensures ok { IfOk result (λ d. FilledAs file.now d) }
+    ensures err { IfErr result (λ r. decode file.now ≡ bad (number_of r) (place_of r)) }
 {
     if 46000 < file.len() {
-        return Verdict::Refuses(1, 0);
+        return Err(Refusal::Long);
     }
-    let head = head_refusal(file);
-    if head != 0 {
-        return Verdict::Refuses(head, 0);
-    }
-    match fill_tables(file, net) {
-        Read::Bad(place) => Verdict::Refuses(4, place),
-        Read::Behind(at) => fill_rest(file, net, at),
-    }
+    check_head(file)?;
+    let behind = fill_tables(file, net)?;
+    let end = fill_nodes(file, net, behind)?;
+    check_end(file, end)?;
+    Ok(Draft::of(file, net))
 }

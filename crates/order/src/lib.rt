@@ -5,15 +5,14 @@
 pub mod hinted;
 
 ghost use Rattle.std.specs.Prelude.{◌≡◌, true, false, ℕ, ◌<◌, ◌≤◌, length, get_or};
-ghost use Rattle.netlist.specs.Net.{size, element_at, in_clock, Sourced};
-ghost use Rattle.circuit.specs.Circuit.{net_of, order_of, Circuit};
+ghost use Rattle.netlist.specs.Net.{Net, size, element_at, in_clock, Sourced};
 ghost use Rattle.order.specs.Pass.{Waiting};
 ghost use Rattle.order.specs.Order.{class_of, flags_in, order_in, Placed, ready, PlacedOnce, PlacedPass, Outcome};
 
-use areas::{number_at, read_at, write_at};
-use circuit::{clocked_rom, node_count, put_order, register, source_count, source_of, wide};
+use areas::{at_or, read_at, write_at};
+use circuit::{Draft, Netlist};
 
-// The steps that count: those within the clock (check 9), or those into registers (check 10).
+// The steps that count: those within the clock (check 9), or those into registers (check 10). (An enum and no closure: contracts name the class of a kind of steps.)
 #[derive(Clone, Copy)]
 pub enum Steps {
     InClock,
@@ -21,18 +20,21 @@ pub enum Steps {
 }
 
 // How many sources of node v, from the first on, count. Kinds follow no pattern: there is no branch on them.
-pub fn count_at(file: &[u8], net: &[u16], steps: Steps, v: usize) -> usize
-    requires circuit { Circuit file.now net.now }
-    requires asked { let N = net_of file.now net.now in v < size N }
-    ensures { let N = net_of file.now net.now in (result ≡ (class_of steps).of (element_at N v)) × (result ≤ 3) }
+pub fn count_at(net: &Netlist, steps: Steps, v: usize) -> usize
+    requires { v < size net.now.net }
+    ensures count { result ≡ (class_of steps).of (element_at net.now.net v) }
+    ensures few { result ≤ 3 }
 {
     match steps {
         Steps::InClock => {
-            let n = source_count(file, net, v);
-            let held = register(file, net, v) + clocked_rom(file, net, v);
-            if held == 0 { n } else { 0 }
+            let n = net.source_count(v);
+            if net.is_register(v) | net.is_clocked_rom(v) {
+                0
+            } else {
+                n
+            }
         }
-        Steps::InRegisters => register(file, net, v),
+        Steps::InRegisters => net.is_register(v) as usize,
     }
 }
 
@@ -50,45 +52,50 @@ const PLACING: usize = 4096;
 const NONE: usize = 65535;
 
 // The first source of node v within the clock that is not flagged, or none.
-fn missing(file: &[u8], net: &[u16], area: &[u16], v: usize) -> usize
-    requires circuit { Circuit file.now net.now }
-    requires asked { let N = net_of file.now net.now in Sourced N × (v < size N) × (length area.now ≡ 4096) }
-    ensures { let N = net_of file.now net.now in (result ≡ 65535 → ready in_clock N (flags_in area.now) v ≡ true) × (result < 65535 → ready in_clock N (flags_in area.now) v ≡ false) × (result ≤ 65535) }
+fn missing(net: &Netlist, area: &[u16; PLACING], v: usize) -> usize
+    requires sourced { Sourced net.now.net }
+    requires node { v < size net.now.net }
+    ensures none { result ≡ 65535 → ready in_clock net.now.net (flags_in area.now) v ≡ true }
+    ensures some { result < 65535 → ready in_clock net.now.net (flags_in area.now) v ≡ false }
+    ensures word { result ≤ 65535 }
 {
-    let n = count_at(file, net, Steps::InClock, v);
-    let mut p: usize = 0;
-    while p < n {
-        let u = source_of(file, net, v, p);
+    net.bounds();
+    let n = count_at(net, Steps::InClock, v);
+    for p in 0..n {
+        let u = net.source(v, p);
         if read_at(area, FLAGS + u) == 0 {
             return u;
         }
-        p = p + 1;
     }
     NONE
 }
 
 // Lets node v wait for node u.
-fn wait(v: usize, u: usize, area: &mut [u16])
-    requires { (v < 1024) × (length area.old ≡ 4096) }
-    ensures { (flags_in area.new ≡ flags_in area.old) × (order_in area.new ≡ order_in area.old) }
+fn wait(v: usize, u: usize, area: &mut [u16; PLACING])
+    requires { v < 1024 }
+    ensures flags { flags_in area.new ≡ flags_in area.old }
+    ensures order { order_in area.new ≡ order_in area.old }
 {
     if 1023 < u {
         return;
     }
-    write_at(area, NEXTS + v, read_at(area, HEADS + u));
+    let head = read_at(area, HEADS + u);
+    write_at(area, NEXTS + v, head);
     write_at(area, HEADS + u, (v + 1) as u16);
 }
 
 // Places node v next where it is ready and not placed yet, or lets it wait; gives the number of nodes placed.
-fn place(file: &[u8], net: &[u16], v: usize, k: usize, area: &mut [u16]) -> usize
-    requires circuit { Circuit file.now net.now }
-    requires asked { let N = net_of file.now net.now in Sourced N × (v < size N) × (length area.old ≡ 4096) × Placed in_clock N (flags_in area.old) (order_in area.old) k }
-    ensures { let N = net_of file.now net.now in PlacedOnce in_clock N (flags_in area.old) (flags_in area.new) (order_in area.new) k result v }
+fn place(net: &Netlist, v: usize, k: usize, area: &mut [u16; PLACING]) -> usize
+    requires sourced { Sourced net.now.net }
+    requires node { v < size net.now.net }
+    requires placed { Placed in_clock net.now.net (flags_in area.old) (order_in area.old) k }
+    ensures { PlacedOnce in_clock net.now.net (flags_in area.old) (flags_in area.new) (order_in area.new) k result v }
 {
+    net.bounds();
     if 0 < read_at(area, FLAGS + v) {
         return k;
     }
-    let u = missing(file, net, area, v);
+    let u = missing(net, area, v);
     if u < NONE {
         wait(v, u, area);
         return k;
@@ -99,84 +106,82 @@ fn place(file: &[u8], net: &[u16], v: usize, k: usize, area: &mut [u16]) -> usiz
 }
 
 // The same where v is a node.
-fn place_if(file: &[u8], net: &[u16], v: usize, k: usize, area: &mut [u16]) -> usize
-    requires circuit { Circuit file.now net.now }
-    requires asked { let N = net_of file.now net.now in Sourced N × (length area.old ≡ 4096) × Placed in_clock N (flags_in area.old) (order_in area.old) k }
-    ensures { let N = net_of file.now net.now in Placed in_clock N (flags_in area.new) (order_in area.new) result }
+fn place_if(net: &Netlist, v: usize, k: usize, area: &mut [u16; PLACING]) -> usize
+    requires sourced { Sourced net.now.net }
+    requires placed { Placed in_clock net.now.net (flags_in area.old) (order_in area.old) k }
+    ensures { Placed in_clock net.now.net (flags_in area.new) (order_in area.new) result }
 {
-    if v < node_count(file, net) {
-        place(file, net, v, k, area)
+    if v < net.node_count() {
+        place(net, v, k, area)
     } else {
         k
     }
 }
 
 // Tries the nodes that wait for node v.
-fn wake(file: &[u8], net: &[u16], v: usize, start: usize, area: &mut [u16]) -> usize
-    requires circuit { Circuit file.now net.now }
-    requires asked { let N = net_of file.now net.now in Sourced N × (v < 1024) × (length area.old ≡ 4096) × Placed in_clock N (flags_in area.old) (order_in area.old) start }
-    ensures { let N = net_of file.now net.now in Placed in_clock N (flags_in area.new) (order_in area.new) result }
+fn wake(net: &Netlist, v: usize, start: usize, area: &mut [u16; PLACING]) -> usize
+    requires sourced { Sourced net.now.net }
+    requires few { v < 1024 }
+    requires placed { Placed in_clock net.now.net (flags_in area.old) (order_in area.old) start }
+    ensures { Placed in_clock net.now.net (flags_in area.new) (order_in area.new) result }
 {
-    let mut w = wide(read_at(area, HEADS + v));
+    let mut w = read_at(area, HEADS + v) as usize;
     let mut k = start;
-    let mut i: usize = 0;
-    while i < 1024 {
+    for _i in 0..1024 {
         if w == 0 {
             return k;
         }
         let node = w - 1;
-        w = wide(number_at(area, NEXTS + node));
-        k = place_if(file, net, node, k, area);
-        i = i + 1;
+        w = at_or(area, NEXTS + node, 0) as usize;
+        k = place_if(net, node, k, area);
     }
     k
 }
 
 // Tries the nodes that wait, from those for the first node of the order on.
-fn wake_all(file: &[u8], net: &[u16], start: usize, area: &mut [u16]) -> usize
-    requires circuit { Circuit file.now net.now }
-    requires asked { let N = net_of file.now net.now in Sourced N × (length area.old ≡ 4096) × Placed in_clock N (flags_in area.old) (order_in area.old) start }
-    ensures { let N = net_of file.now net.now in Placed in_clock N (flags_in area.new) (order_in area.new) result }
+fn wake_all(net: &Netlist, start: usize, area: &mut [u16; PLACING]) -> usize
+    requires sourced { Sourced net.now.net }
+    requires placed { Placed in_clock net.now.net (flags_in area.old) (order_in area.old) start }
+    ensures { Placed in_clock net.now.net (flags_in area.new) (order_in area.new) result }
 {
-    let n = node_count(file, net);
+    net.bounds();
+    let n = net.node_count();
     let mut k = start;
-    let mut i: usize = 0;
-    while i < n {
+    for i in 0..n {
         if k <= i {
             return k;
         }
-        k = wake(file, net, wide(read_at(area, i)), k, area);
-        i = i + 1;
+        k = wake(net, read_at(area, i) as usize, k, area);
     }
     k
 }
 
 // One pass over the nodes in file order.
-fn sweep(file: &[u8], net: &[u16], start: usize, area: &mut [u16]) -> usize
-    requires circuit { Circuit file.now net.now }
-    requires asked { let N = net_of file.now net.now in Sourced N × (length area.old ≡ 4096) × Placed in_clock N (flags_in area.old) (order_in area.old) start }
-    ensures { let N = net_of file.now net.now in PlacedPass in_clock N (flags_in area.old) (flags_in area.new) (order_in area.new) start result (size N) }
+fn sweep(net: &Netlist, start: usize, area: &mut [u16; PLACING]) -> usize
+    requires sourced { Sourced net.now.net }
+    requires placed { Placed in_clock net.now.net (flags_in area.old) (order_in area.old) start }
+    ensures { let N = net.now.net in PlacedPass in_clock N (flags_in area.old) (flags_in area.new) (order_in area.new) start result (size N) }
 {
-    let n = node_count(file, net);
+    let n = net.node_count();
     let mut k = start;
-    let mut v: usize = 0;
-    while v < n {
-        k = place(file, net, v, k, area);
-        v = v + 1;
+    for v in 0..n {
+        k = place(net, v, k, area);
     }
     k
 }
 
 // Passes until all are placed, or nothing more can be. Where no node is behind a loop there is none.
-fn settle(file: &[u8], net: &[u16], start: usize, area: &mut [u16]) -> usize
-    requires circuit { Circuit file.now net.now }
-    requires asked { let N = net_of file.now net.now in Sourced N × (length area.old ≡ 4096) × Placed in_clock N (flags_in area.old) (order_in area.old) start }
-    ensures { let N = net_of file.now net.now in Placed in_clock N (flags_in area.new) (order_in area.new) result × Waiting (ready in_clock N) (flags_in area.new) (size N) }
+// (A `while`: its counter takes what each pass gives.)
+fn settle(net: &Netlist, start: usize, area: &mut [u16; PLACING]) -> usize
+    requires sourced { Sourced net.now.net }
+    requires placed { Placed in_clock net.now.net (flags_in area.old) (order_in area.old) start }
+    ensures placed { Placed in_clock net.now.net (flags_in area.new) (order_in area.new) result }
+    ensures waiting { let N = net.now.net in Waiting (ready in_clock N) (flags_in area.new) (size N) }
 {
-    let n = node_count(file, net);
+    let n = net.node_count();
     let mut k = start;
     while k < n {
-        let more = sweep(file, net, k, area);
+        let more = sweep(net, k, area);
         if more == k {
             return k;
         }
@@ -186,31 +191,31 @@ fn settle(file: &[u8], net: &[u16], start: usize, area: &mut [u16]) -> usize
 }
 
 // Keeps the order in the circuit.
-fn keep_order(file: &[u8], net: &mut [u16], area: &[u16])
-    requires circuit { Circuit file.now net.old }
-    requires asked { length area.now ≡ 4096 }
-    ensures { let N = net_of file.now net.old in (net_of file.now net.new ≡ N) × Circuit file.now net.new
-        × ((i : ℕ) → i < size N → get_or (order_of net.new) i 0 ≡ get_or area.now i 0) }
+fn keep_order(draft: &mut Draft, area: &[u16; PLACING])
+    ensures file { draft.new.file ≡ draft.old.file }
+    ensures net { draft.new.net ≡ draft.old.net }
+    ensures order { (i : ℕ) → i < size draft.old.net → get_or draft.new.order i 0 ≡ get_or area.now i 0 }
 {
-    let n = node_count(file, net);
-    let mut i: usize = 0;
-    while i < n {
-        put_order(file, net, i, read_at(area, i));
-        i = i + 1;
+    draft.bounds();
+    let n = draft.node_count();
+    for i in 0..n {
+        draft.put_turn(i, read_at(area, i));
     }
 }
 
 // Puts the nodes into an order, in the circuit, as far as they can be, and gives how many.
-pub fn order_nodes(file: &[u8], net: &mut [u16]) -> usize
-    requires circuit { Circuit file.now net.old }
-    requires asked { let N = net_of file.now net.old in Sourced N }
-    ensures { let N = net_of file.now net.old in (net_of file.now net.new ≡ N) × Circuit file.now net.new
-        × Outcome in_clock N (order_of net.new) result }
+pub fn order_nodes(draft: &mut Draft) -> usize
+    requires { Sourced draft.old.net }
+    ensures file { draft.new.file ≡ draft.old.file }
+    ensures net { draft.new.net ≡ draft.old.net }
+    ensures outcome { Outcome in_clock draft.old.net draft.new.order result }
 {
+    let net = draft.shown();
+    net.bounds();
     let mut area = [0u16; PLACING];
-    let first = sweep(file, net, 0, &mut area);
-    let placed = wake_all(file, net, first, &mut area);
-    let settled = settle(file, net, placed, &mut area);
-    keep_order(file, net, &area);
+    let first = sweep(&net, 0, &mut area);
+    let placed = wake_all(&net, first, &mut area);
+    let settled = settle(&net, placed, &mut area);
+    keep_order(draft, &area);
     settled
 }

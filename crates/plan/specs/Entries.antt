@@ -1,10 +1,11 @@
 -- The places of the rewritten netlist that are no registers, as two lists hold them: the old node of each, and its reset word. Assumes nothing.
-use Rattle.std.specs.Prelude.{◌≡◌, List, ◌++◌, map, ℕ, ◌+◌, ◌*◌, ◌≤◌, ◌<◌, length, get_or, eqb}
+use Rattle.std.specs.Prelude.{◌≡◌, List, ◌++◌, map, ℕ, ◌+◌, ◌*◌, ◌≤◌, ◌<◌, length, get_or, set, eqb}
 use Rattle.lists.specs.Lists.{below, concat_map, only, add_new, distinct}
 use Rattle.netlist.specs.Net.{Net, size}
 use Rattle.behaviour.specs.Run.{zero_word}
 use Rattle.retiming.specs.Rewrite.{Timing, Place, Entry, copies_of, entries_of, entry_places}
 use Rattle.retiming.specs.Layout.{no_place}
+use Rattle.plan.specs.Areas.{owners_in, words_in, late_in, firsts_in}
 
 -- where a search for a word from one place up to another stops: at the first that has it, or at the end
 pub record Finds (words : List ℕ) (c from to r : ℕ) : Type 0 where
@@ -12,6 +13,13 @@ pub record Finds (words : List ℕ) (c from to r : ℕ) : Type 0 where
   pub before : r ≤ to
   pub passed : (i : ℕ) → from ≤ i → i < r → get_or words i 0 ≡ c → ⊥
   pub found : r < to → get_or words r 0 ≡ c
+
+-- an entry is put in the plan's area: at its number, and nothing where there is no room
+pub record EntryPut (old new : List ℕ) (count u word : ℕ) : Type 0 where
+  pub owners : owners_in new ≡ set (owners_in old) count u
+  pub words : words_in new ≡ set (words_in old) count word
+  pub late : late_in new ≡ late_in old
+  pub firsts : firsts_in new ≡ firsts_in old
 
 module _ (owners words : List ℕ) where
   -- these entries are held

@@ -26,29 +26,25 @@ use Rattle.wiring.specs.Wiring.{wire_count, wire_at, WiredTo, Copied}
 use Rattle.wiring.specs.WiringLaws.{wires_few, count_wires, by_wires}
 use Rattle.wiring.specs.Links.{From}
 use Rattle.plan.specs.Areas.{owners_in, words_in, late_in, firsts_in}
-use Rattle.plan.specs.Entries.{Finds, Stored, Placing, Adds, wanted_of, Wants, AddsAll, entries_before, Firsts, AllPlaced}
+use Rattle.plan.specs.Entries.{EntryPut, Finds, Stored, Placing, Adds, wanted_of, Wants, AddsAll, entries_before, Firsts, AllPlaced}
 
 -- ---- words put in the plan's area
 
--- an entry is put: at its number, and nothing where there is no room
-abbrev EntryPut : List ℕ → List ℕ → ℕ → ℕ → ℕ → Type 0
-EntryPut l k count u c = (owners_in k ≡ set (owners_in l) count u) × (words_in k ≡ set (words_in l) count c) × (late_in k ≡ late_in l) × (firsts_in k ≡ firsts_in l)
+pub entry-put : (l : List ℕ) (count u c : ℕ) → count < 1024 → EntryPut l (set (set l count u) (1024 + count) c) count u c
+entry-put l count u c h = record {
+  owners = section-after 0 1024 (set l count u) (1024 + count) c (omega arith) ∙ ap (λ (i : ℕ). owners_in (set l i u)) (let e : count ≡ 0 + count = omega arith in e) ∙ section-put 0 1024 l count u h;
+  words = section-put 1024 1024 (set l count u) count c h ∙ ap (λ (w : List ℕ). set w count c) (section_before 1024 1024 l count u (omega arith));
+  late = section_before 2048 1024 (set l count u) (1024 + count) c (omega arith) ∙ section_before 2048 1024 l count u (omega arith);
+  firsts = section_before 3072 1024 (set l count u) (1024 + count) c (omega arith) ∙ section_before 3072 1024 l count u (omega arith);
+}
 
-pub entry-put : (l m k : List ℕ) (count u c : ℕ) → count < 1024 → m ≡ set l count u → k ≡ set m (1024 + count) c → EntryPut l k count u c
-entry-put l m k count u c h a b = (
-  ap (λ (w : List ℕ). owners_in w) b ∙ section-after 0 1024 m (1024 + count) c (omega arith) ∙ ap (λ (w : List ℕ). owners_in w) a ∙ ap (λ (i : ℕ). owners_in (set l i u)) (let e : count ≡ 0 + count = omega arith in e) ∙ section-put 0 1024 l count u h,
-  ap (λ (w : List ℕ). words_in w) b ∙ section-put 1024 1024 m count c h ∙ ap (λ (w : List ℕ). set (words_in w) count c) a ∙ ap (λ (w : List ℕ). set w count c) (section_before 1024 1024 l count u (omega arith)),
-  ap (λ (w : List ℕ). late_in w) b ∙ section_before 2048 1024 m (1024 + count) c (omega arith) ∙ ap (λ (w : List ℕ). late_in w) a ∙ section_before 2048 1024 l count u (omega arith),
-  ap (λ (w : List ℕ). firsts_in w) b ∙ section_before 3072 1024 m (1024 + count) c (omega arith) ∙ ap (λ (w : List ℕ). firsts_in w) a ∙ section_before 3072 1024 l count u (omega arith),
-)
-
-pub entry_out : (l k : List ℕ) (count u c : ℕ) → length l ≡ 7168 → 1024 ≤ count → k ≡ l → EntryPut l k count u c
-entry_out l k count u c e h a = (
-  ap (λ (w : List ℕ). owners_in w) a ∙ sym (set_out (owners_in l) count u (omega (arith, section-length 0 1024 l (omega arith)))),
-  ap (λ (w : List ℕ). words_in w) a ∙ sym (set_out (words_in l) count c (omega (arith, section-length 1024 1024 l (omega arith)))),
-  ap (λ (w : List ℕ). late_in w) a,
-  ap (λ (w : List ℕ). firsts_in w) a,
-)
+pub entry_out : (l : List ℕ) (count u c : ℕ) → length l ≡ 7168 → 1024 ≤ count → EntryPut l l count u c
+entry_out l count u c e h = record {
+  owners = sym (set_out (owners_in l) count u (omega (arith, section-length 0 1024 l (omega arith))));
+  words = sym (set_out (words_in l) count c (omega (arith, section-length 1024 1024 l (omega arith))));
+  late = refl;
+  firsts = refl;
+}
 
 -- where the entries of a node begin
 pub first-put : (l m : List ℕ) (u x : ℕ) → u < 1024 → m ≡ set l (3072 + u) x → (owners_in m ≡ owners_in l) × (words_in m ≡ words_in l) × (late_in m ≡ late_in l) × (firsts_in m ≡ set (firsts_in l) u x)
@@ -105,7 +101,7 @@ placing_as {owners} {owners'} {words} {words'} {l} {m} {count} p q r t =
 
 -- ---- a reset word of a ROM more
 
-word_of : Place → ℕ
+unfoldable pub word_of : Place → ℕ
 word_of (Entry u c) = c
 word_of (Reg x c p j) = 0
 

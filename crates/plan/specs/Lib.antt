@@ -7,5 +7,6 @@ pub mod OperandAt
 pub mod RegistersPut
 pub mod RegistersRow
 pub mod RegistersLaws
+pub mod Retiming
 pub mod Plan
 pub mod PlanLaws

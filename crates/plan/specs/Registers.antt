@@ -1,17 +1,26 @@
 -- The registers of the rewritten netlist, wire by wire, and what each reader reads, as four lists hold them. Assumes nothing.
-use Rattle.std.specs.Prelude.{◌≡◌, true, cond, List, [], ℕ, zero, suc, ◌+◌, ◌-◌, ◌*◌, ◌/◌, ◌%◌, ◌≤◌, ◌<◌, length, get_or, ltb}
+use Rattle.std.specs.Prelude.{◌≡◌, true, cond, List, [], ℕ, zero, suc, ◌+◌, ◌-◌, ◌*◌, ◌/◌, ◌%◌, ◌≤◌, ◌<◌, length, get_or, set, ltb}
 use Rattle.lists.specs.Lists.{below, concat_map}
 use Rattle.netlist.specs.Net.{Net, size, element_at, source, operands}
 use Rattle.behaviour.specs.Run.{zero_word}
 use Rattle.retiming.specs.Rewrite.{Timing, Place, Entry, Reg, root, regs_on, entry_places, number_of, along}
 use Rattle.retiming.specs.Layout.{no_place}
 use Rattle.wiring.specs.Wiring.{Ready, asked_clock, source_of, wire_at, Copied}
+use Rattle.plan.specs.Areas.{owners_in, words_in, late_in, firsts_in, sources_in}
 use Rattle.plan.specs.Entries.{Stored, Firsts}
 
 -- what register t of a wire reads, from the source on: the source, or the register before it
 abbrev pub behind : ℕ → ℕ → ℕ → ℕ
 behind from start zero = from
 behind from start (suc t) = start + t
+
+-- a register is put in the plan's area, where there is room for it, and what the other sections hold stays
+pub record RegisterPut (old new : List ℕ) (r s clock before : ℕ) : Type 0 where
+  pub owners : owners_in new ≡ set (owners_in old) r s
+  pub late : late_in new ≡ set (late_in old) r clock
+  pub sources : sources_in new ≡ set (sources_in old) (3 * r) before
+  pub words : words_in new ≡ words_in old
+  pub firsts : firsts_in new ≡ firsts_in old
 
 -- of the registers of a wire with this source and lead of its reader, counted from an origin, which stand from `start` on, the first are put: so many are done.
 -- What is before them stays, and no clock after them is wanted

@@ -256,13 +256,16 @@ laid_as {N} {f} {o} {o'} {w} {w'} {l} {l'} {s} {s'} {m} {total} a b c e d =
 
 -- what is known of the wire to operand p of entry e once its reader x is read: its numbers, old and new, are in the areas, and so is where it comes from
 pub record WireRead (N : Net) (f : Timing) (wires plan : List ℕ) (e p x : ℕ) : Type 0 where
+  pub entry : e < entry_count N f
+  pub operand : p < operands (element_at N (get_or (owners_in plan) e 0))
+  pub reader : x ≡ get_or plan e 0
   pub inside : x < size N
   pub few : p < 3
   pub old : 3 * x + p < 3072
   pub new : 3 * e + p < 3072
   pub from : source N x p < size N
-  pub end : {u : ℕ} → u ≡ get_or wires (0 + (3 * x + p)) 0 → u < size N
-  pub first : {u v : ℕ} → u ≡ get_or wires (0 + (3 * x + p)) 0 → v ≡ get_or plan (3072 + u) 0 → v ≤ entry_count N f
+  pub end : get_or wires (0 + (3 * x + p)) 0 < size N
+  pub first : get_or plan (3072 + get_or wires (0 + (3 * x + p)) 0) 0 ≤ entry_count N f
 
 module _ {N : Net} {f : Timing} {timing copied : List ℕ} (wires plan : List ℕ) (t : Planning N f timing (roots_in timing) (passes_in timing) (ends_in wires) copied (firsts_in plan)) {e p total entries : ℕ}
     (d : Laid N f (owners_in plan) (words_in plan) (late_in plan) (sources_in plan) (3 * e + p) total) (ne : entries ≡ entry_count N f) (h : e < entries)
@@ -299,13 +302,16 @@ module _ {N : Net} {f : Timing} {timing copied : List ℕ} (wires plan : List �
 
   pub wire_read : WireRead N f wires plan e p x
   wire_read = record {
+    entry = omega arith;
+    operand = o;
+    reader = xe;
     inside = reader_inside;
     few = at.few;
     old = wire_small;
     new = omega (arith, at.within, t.few);
     from = omega (arith, at.from, source_inside d at.within t at.there wire_is);
-    end = λ ee. end_within ee;
-    first = λ ee fe. first_few d at.within t at.there wire_is refl (first_read ee fe);
+    end = end_within refl;
+    first = first_few d at.within t at.there wire_is refl (first_read refl refl);
   }
 
   pub wire_laid : {end s c first r count lead-x origin head : ℕ} (put last : List ℕ) → end ≡ get_or wires (0 + (3 * x + p)) 0 → s ≡ source N x p → c ≡ get_or copied (3 * x + p) 0 → first ≡ get_or plan (3072 + end) 0

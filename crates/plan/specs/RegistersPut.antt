@@ -7,7 +7,7 @@ use Rattle.lists.specs.Sections.{section}
 use Rattle.lists.proofs.Sections.{section-length, section-put, section_before, section-after}
 use Rattle.wiring.specs.Wiring.{asked_clock}
 use Rattle.plan.specs.Areas.{owners_in, words_in, late_in, firsts_in, sources_in}
-use Rattle.plan.specs.Registers.{behind, PutsTo}
+use Rattle.plan.specs.Registers.{behind, PutsTo, RegisterPut}
 
 module _ {s from lead origin count start : ℕ} {owners late sources : List ℕ} where
   pub puts_none : PutsTo s from lead origin count start 0 owners late sources owners late sources
@@ -59,34 +59,29 @@ puts_as {s} {s'} {from} {lead} {origin} {count} {start} {done} {o} {l} {r} {o'} 
 
 -- ---- in the plan's area
 
--- a register is put, and what the others hold stays
-abbrev pub RegisterPut : (l n : List ℕ) (r s clock before : ℕ) → Type 0
-RegisterPut l n r s clock before =
-    (owners_in n ≡ set (owners_in l) r s) × (late_in n ≡ set (late_in l) r clock) × (sources_in n ≡ set (sources_in l) (3 * r) before) × (words_in n ≡ words_in l) × (firsts_in n ≡ firsts_in l)
-
-pub register_put : (l m k n : List ℕ) (r s clock before : ℕ) → r < 1024 → m ≡ set l r s → k ≡ set m (2048 + r) clock → n ≡ set k (4096 + 3 * r) before → RegisterPut l n r s clock before
-register_put l m k n r s clock before h a b c = (
-  ap (λ (w : List ℕ). owners_in w) c ∙ section-after 0 1024 k (4096 + 3 * r) before (omega arith) ∙ ap (λ (w : List ℕ). owners_in w) b ∙ section-after 0 1024 m (2048 + r) clock (omega arith)
-      ∙ ap (λ (w : List ℕ). owners_in w) a ∙ ap (λ (i : ℕ). section 0 1024 (set l i s)) (let e : r ≡ 0 + r = omega arith in e) ∙ section-put 0 1024 l r s h,
-  ap (λ (w : List ℕ). late_in w) c ∙ section-after 2048 1024 k (4096 + 3 * r) before (omega arith) ∙ ap (λ (w : List ℕ). late_in w) b ∙ section-put 2048 1024 m r clock h
-      ∙ ap (λ (w : List ℕ). set (late_in w) r clock) a ∙ ap (λ (w : List ℕ). set w r clock) (section_before 2048 1024 l r s (omega arith)),
-  ap (λ (w : List ℕ). sources_in w) c ∙ section-put 4096 3072 k (3 * r) before (omega arith) ∙ ap (λ (w : List ℕ). set (sources_in w) (3 * r) before) b
-      ∙ ap (λ (w : List ℕ). set w (3 * r) before) (section_before 4096 3072 m (2048 + r) clock (omega arith) ∙ ap (λ (w : List ℕ). sources_in w) a ∙ section_before 4096 3072 l r s (omega arith)),
-  ap (λ (w : List ℕ). words_in w) c ∙ section-after 1024 1024 k (4096 + 3 * r) before (omega arith) ∙ ap (λ (w : List ℕ). words_in w) b ∙ section-after 1024 1024 m (2048 + r) clock (omega arith)
-      ∙ ap (λ (w : List ℕ). words_in w) a ∙ section_before 1024 1024 l r s (omega arith),
-  ap (λ (w : List ℕ). firsts_in w) c ∙ section-after 3072 1024 k (4096 + 3 * r) before (omega arith) ∙ ap (λ (w : List ℕ). firsts_in w) b ∙ section_before 3072 1024 m (2048 + r) clock (omega arith)
-      ∙ ap (λ (w : List ℕ). firsts_in w) a ∙ section_before 3072 1024 l r s (omega arith),
-)
+pub register_put : (l : List ℕ) (r s clock before : ℕ) → r < 1024 → RegisterPut l (set (set (set l r s) (2048 + r) clock) (4096 + 3 * r) before) r s clock before
+register_put l r s clock before h =
+    let m : List ℕ = set l r s in
+    let k : List ℕ = set m (2048 + r) clock in
+    record {
+      owners = section-after 0 1024 k (4096 + 3 * r) before (omega arith) ∙ section-after 0 1024 m (2048 + r) clock (omega arith)
+          ∙ ap (λ (i : ℕ). section 0 1024 (set l i s)) (let e : r ≡ 0 + r = omega arith in e) ∙ section-put 0 1024 l r s h;
+      late = section-after 2048 1024 k (4096 + 3 * r) before (omega arith) ∙ section-put 2048 1024 m r clock h ∙ ap (λ (w : List ℕ). set w r clock) (section_before 2048 1024 l r s (omega arith));
+      sources = section-put 4096 3072 k (3 * r) before (omega arith)
+          ∙ ap (λ (w : List ℕ). set w (3 * r) before) (section_before 4096 3072 m (2048 + r) clock (omega arith) ∙ section_before 4096 3072 l r s (omega arith));
+      words = section-after 1024 1024 k (4096 + 3 * r) before (omega arith) ∙ section-after 1024 1024 m (2048 + r) clock (omega arith) ∙ section_before 1024 1024 l r s (omega arith);
+      firsts = section-after 3072 1024 k (4096 + 3 * r) before (omega arith) ∙ section_before 3072 1024 m (2048 + r) clock (omega arith) ∙ section_before 3072 1024 l r s (omega arith);
+    }
 
 -- there is no room for it
 pub register_past : (l : List ℕ) (r s clock before : ℕ) → 1024 ≤ r → length l ≡ 7168 → RegisterPut l l r s clock before
-register_past l r s clock before h long = (
-  sym (set_out (owners_in l) r s (omega (arith, section-length 0 1024 l (omega arith)))),
-  sym (set_out (late_in l) r clock (omega (arith, section-length 2048 1024 l (omega arith)))),
-  sym (set_out (sources_in l) (3 * r) before (omega (arith, section-length 4096 3072 l (omega arith)))),
-  refl,
-  refl,
-)
+register_past l r s clock before h long = record {
+  owners = sym (set_out (owners_in l) r s (omega (arith, section-length 0 1024 l (omega arith))));
+  late = sym (set_out (late_in l) r clock (omega (arith, section-length 2048 1024 l (omega arith))));
+  sources = sym (set_out (sources_in l) (3 * r) before (omega (arith, section-length 4096 3072 l (omega arith))));
+  words = refl;
+  firsts = refl;
+}
 
 -- what an entry reads is put
 pub source-put : (l n : List ℕ) (m x : ℕ) → m < 3072 → n ≡ set l (4096 + m) x
@@ -104,4 +99,4 @@ pub puts_next : (l₀ l n : List ℕ) {s from lead origin count start done r clo
     → length l ≡ 7168 → r ≡ start + done → clock ≡ asked_clock origin (lead + (count - suc done)) → before ≡ behind from start done → RegisterPut l n r s clock before
     → PutsTo s from lead origin count start (done + 1) (owners_in l₀) (late_in l₀) (sources_in l₀) (owners_in n) (late_in n) (sources_in n)
 puts_next l₀ l n t long re ce be p =
-    puts_more t (section-length 0 1024 l (omega arith)) (section-length 2048 1024 l (omega arith)) (section-length 4096 3072 l (omega arith)) re ce be p.0 p.1 p.2
+    puts_more t (section-length 0 1024 l (omega arith)) (section-length 2048 1024 l (omega arith)) (section-length 4096 3072 l (omega arith)) re ce be p.owners p.late p.sources

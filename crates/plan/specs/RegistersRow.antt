@@ -1,7 +1,7 @@
 -- All registers in a row, wire by wire; the number of each, of an entry, and of what an entry reads. Assumes nothing.
 use Rattle.std.specs.Prelude.{◌≡◌, true, false, eqb}
 use Rattle.std.proofs.Math.Path.{refl, sym, ap, ap₂, subst}
-use Rattle.std.proofs.Common.{◌∙◌, true≢false, zero-add, not-suc-le-zero, le_refl, le_of_suc-le-suc, get_or-append-add}
+use Rattle.std.proofs.Common.{◌∙◌, zero-add, not-suc-le-zero, le_refl, le_of_suc-le-suc, get_or-append-add}
 use Rattle.std.proofs.Math.Logic.{⊎_elim}
 use mathlib.Core.List.{List, [], ◌∷◌, ◌++◌, map}
 use Prim.Native.Nat.{ℕ, zero, suc, ◌+◌, ◌-◌, ◌*◌, ◌/◌, ◌%◌, ◌≤◌, ◌<◌, zero-le, suc-le-suc}
@@ -12,7 +12,6 @@ use Rattle.lists.specs.Lists.{up_from, below, concat_map, offset, has, find}
 use Rattle.lists.proofs.BelowLaws.{true_or_false, lt_or_le, eqb_self, get_or_map-lt, take_up_from}
 use Rattle.lists.proofs.ListsLaws.{concat_map-concat_map, concat_map-below_get_or, concat_map-cong, get_or_concat_below, offset-below-lt, find-lt, get_or_find}
 use Rattle.netlist.specs.declared.Element.{Element}
-use Rattle.netlist.specs.declared.Element.TheVariants.{Input, Output, Register, Async, Clocked, Gate}
 use Rattle.netlist.specs.Net.{Net, size, element_at, operands, is_register}
 use Rattle.netlist.proofs.NodeLaws.{few_operands}
 use Rattle.behaviour.specs.Run.{zero_word}
@@ -22,8 +21,9 @@ use Rattle.retiming.proofs.LayoutLaws.{places_sound}
 use Rattle.retiming.proofs.Numbers.{number_of_place}
 use Rattle.lists.proofs.Threes.{concat_next, concat-after, concat_longer, row_of_three, in_threes}
 use Rattle.wiring.specs.Wiring.{wires_to}
+use Rattle.wiring.specs.WiringLaws.{other_wires}
 use Rattle.plan.specs.Entries.{Finds, Stored, entries_before}
-use Rattle.plan.specs.EntriesLaws.{longer_after, entries_all}
+use Rattle.plan.specs.EntriesLaws.{word_of, longer_after, entries_all}
 use Rattle.plan.specs.Registers.{entry_count, entry_at, wire_on, row_before, wires_before}
 
 -- ---- what stands on the wires, by entry
@@ -109,10 +109,6 @@ find-le c [] j h e = absurd (not-suc-le-zero h)
 find-le c (x ∷ l) zero h e = rw (subst (λ (y : ℕ). eqb c y ≡ true) (sym e) (eqb_self c)) (le_refl _)
 find-le c (x ∷ l) (suc j) h e = ⊎_elim (λ t. rw t zero-le) (λ t. rw t (suc-le-suc (find-le c l j (le_of_suc-le-suc h) e))) (true_or_false (eqb c x))
 
-word_of : Place → ℕ
-word_of (Entry u c) = c
-word_of (Reg x c p j) = 0
-
 module _ (N : Net) (f : Timing) (owners words : List ℕ) (held : Stored owners words (entry_places N f (zero_word N))) (u : ℕ) (inside : u < size N) where
   begins : offset (entries_of N f (zero_word N)) (below (size N)) u ≡ length (entries_before N f u)
   unfolding entries_before
@@ -160,9 +156,4 @@ module _ (N : Net) (f : Timing) (owners words : List ℕ) (held : Stored owners 
       subst (Sound N f (zero_word N)) e (places_sound N f (zero_word N) i (omega (arith, length-append (entry_places N f (zero_word N)) (reg_places N f (zero_word N)))))
 
 pub wires_all_lem : (e : Element) → is_register e ≡ false → wires_to e ≡ operands e
-wires_all_lem Input h = refl
-wires_all_lem Output h = refl
-wires_all_lem (Register r) h = absurd (true≢false h)
-wires_all_lem (Async m) h = refl
-wires_all_lem (Clocked m r) h = refl
-wires_all_lem (Gate o) h = refl
+wires_all_lem e h = sym (other_wires e h)

@@ -1,35 +1,27 @@
 // The registers of the rewritten netlist: those of each wire, by reader, by operand, from source to reader; and what each entry reads.
-ghost use Rattle.std.specs.Prelude.{◌≡◌, ◌+◌, ◌*◌, ◌<◌, ◌≤◌, length, get_or, set};
-ghost use Rattle.netlist.specs.Net.{element_at, operands};
-ghost use Rattle.retiming.specs.Modes.{mode_timing};
-ghost use Rattle.wires.specs.Traced.{roots_in, passes_in};
-ghost use Rattle.wiring.specs.Wiring.{ends_in};
+ghost use Rattle.std.specs.Prelude.{◌≡◌, ◌+◌, ◌*◌, ◌<◌, ◌≤◌};
 ghost use Rattle.plan.specs.Areas.{owners_in, words_in, late_in, firsts_in, sources_in};
-ghost use Rattle.plan.specs.Registers.{behind, PutsRegisters, entry_count, Planning, Laid, AllLaid};
-ghost use Rattle.circuit.specs.Circuit.{net_of, Circuit};
+ghost use Rattle.plan.specs.Registers.{behind, RegisterPut, PutsRegisters, entry_count};
+ghost use Rattle.plan.specs.Retiming.{net_of, timing_of, IsPlanned, ReadsWire, LaysTo, LaysAll};
 
 use super::entries::find_from;
-use super::{FIRSTS, LATE, Operand, Plan, SOURCES};
-use areas::{read_at, write_at};
-use circuit::{source_count, source_of, wide};
-use retiming::Mode;
+use super::{FIRSTS, LATE, Operand, PLAN, Retiming, SOURCES};
 use wiring::{ENDS, asked_clock, count_on, origin_of};
 
 // Puts register r, which has the words of node s from a clock on and reads a node, where there is room for it.
-pub fn put_register(r: usize, s: u16, clock: u16, before: u16, plan: &mut [u16])
-    requires { (r ≤ 65535) × (length plan.old ≡ 7168) }
-    ensures { (owners_in plan.new ≡ set (owners_in plan.old) r s) × (late_in plan.new ≡ set (late_in plan.old) r clock)
-        × (sources_in plan.new ≡ set (sources_in plan.old) (3 * r) before)
-        × (words_in plan.new ≡ words_in plan.old) × (firsts_in plan.new ≡ firsts_in plan.old) }
+pub fn put_register(r: usize, s: u16, clock: u16, before: u16, plan: &mut [u16; PLAN])
+    requires { r ≤ 65535 }
+    ensures { RegisterPut plan.old plan.new r s clock before }
 {
     if r < 1024 {
-        write_at(plan, r, s);
-        write_at(plan, LATE + r, clock);
-        write_at(plan, SOURCES + 3 * r, before);
+        plan[r] = s;
+        plan[LATE + r] = clock;
+        plan[SOURCES + 3 * r] = before;
     }
 }
 
-// Puts the registers of a wire, from its source on. The lead is that of its reader, counted from the origin.
+// Puts the registers of a wire, from its source on, and gives what its reader reads: the last of them, or the source where it has none. The lead is that of
+// the reader, counted from the origin.
 fn put_registers(
     s: u16,
     from: u16,
@@ -37,159 +29,100 @@ fn put_registers(
     origin: usize,
     count: usize,
     start: usize,
-    plan: &mut [u16],
-)
-    requires { (lead ≤ 2050) × (count ≤ 3075) × (start ≤ 1024) × (length plan.old ≡ 7168) }
-    ensures { PutsRegisters s from lead origin count start (owners_in plan.old) (late_in plan.old) (sources_in plan.old)
-        (owners_in plan.new) (late_in plan.new) (sources_in plan.new)
-        × (words_in plan.new ≡ words_in plan.old) × (firsts_in plan.new ≡ firsts_in plan.old) }
+    plan: &mut [u16; PLAN],
+) -> u16
+    requires lead { lead ≤ 2050 }
+    requires count { count ≤ 3075 }
+    requires start { start ≤ 1024 }
+    ensures last { result ≡ behind from start count }
+    ensures puts { PutsRegisters s from lead origin count start (owners_in plan.old) (late_in plan.old) (sources_in plan.old) (owners_in plan.new) (late_in plan.new) (sources_in plan.new) }
+    ensures words { words_in plan.new ≡ words_in plan.old }
+    ensures firsts { firsts_in plan.new ≡ firsts_in plan.old }
 {
     let mut before = from;
-    let mut t: usize = 0;
-    while t < count {
+    for t in 0..count {
         let r = start + t;
-        put_register(
-            r,
-            s,
-            asked_clock(lead + (count - 1 - t), origin),
-            before,
-            plan,
-        );
+        let clock = asked_clock(lead + (count - 1 - t), origin);
+        put_register(r, s, clock, before, plan);
         before = r as u16;
-        t = t + 1;
     }
+    before
 }
 
-// What the reader of a wire reads: the last of its registers, or its source where it has none.
-fn last_of(from: u16, start: usize, count: usize) -> u16
-    requires { (count ≤ 3075) × (start ≤ 1024) }
-    ensures { result ≡ behind from start count }
-{
-    if count == 0 {
-        from
-    } else {
-        (start + count - 1) as u16
-    }
-}
-
-// Lays the wire to an operand of an entry; gives the number of nodes. In the old netlist its number is k.
+// Lays the wire to an operand of an entry, whose old node is x; gives the number of nodes. In the old netlist its number is k.
 fn lay_wire(
-    file: &[u8],
-    net: &[u16],
-    timing: &[u16],
-    wires: &[u16],
-    copied: &[u16],
-    made: Plan,
+    from: &Retiming,
+    entries: usize,
+    total: usize,
     to: Operand,
-    plan: &mut [u16],
+    x: usize,
+    plan: &mut [u16; PLAN],
 ) -> usize
-    requires circuit { Circuit file.now net.now }
-    requires asked { let N = net_of file.now net.now in Planning N (mode_timing made.mode N) timing.now (roots_in timing.now) (passes_in timing.now)
-        (ends_in wires.now) copied.now (firsts_in plan.old)
-        × (length timing.now ≡ 3072) × (length wires.now ≡ 10240) × (length copied.now ≡ 3072) × (length plan.old ≡ 7168)
-        × (made.entries ≡ entry_count N (mode_timing made.mode N)) × (made.total ≤ 1024)
-        × (to.e < made.entries) × (to.p < operands (element_at N (get_or (owners_in plan.old) to.e 0)))
-        × Laid N (mode_timing made.mode N) (owners_in plan.old) (words_in plan.old) (late_in plan.old) (sources_in plan.old) (3 * to.e + to.p) made.total }
-    ensures { let N = net_of file.now net.now in Laid N (mode_timing made.mode N) (owners_in plan.new) (words_in plan.new) (late_in plan.new) (sources_in plan.new)
-        (3 * to.e + to.p + 1) result
-        × (result ≤ 4099) × (firsts_in plan.new ≡ firsts_in plan.old) }
+    requires planned { IsPlanned from.now plan.old }
+    requires entries { entries ≡ entry_count (net_of from.now) (timing_of from.now) }
+    requires total { total ≤ 1024 }
+    requires wire { ReadsWire from.now plan.old to.e to.p x }
+    requires laid { LaysTo from.now plan.old (3 * to.e + to.p) total }
+    ensures laid { LaysTo from.now plan.new (3 * to.e + to.p + 1) result }
+    ensures few { result ≤ 4099 }
+    ensures firsts { firsts_in plan.new ≡ firsts_in plan.old }
 {
-    let mode = made.mode;
-    let entries = made.entries;
-    let total = made.total;
-    let e = to.e;
-    let p = to.p;
-    let x = wide(read_at(plan, e));
+    from.net.bounds();
+    let Operand { e, p } = to;
     let k = 3 * x + p;
-    let end = wide(read_at(wires, ENDS + k));
-    let s = source_of(file, net, x, p);
-    let c = read_at(copied, k);
-    let first = wide(read_at(plan, FIRSTS + end));
-    let from = find_from(plan, c, first, entries) as u16;
-    let count = count_on(file, net, mode, timing, x, s);
-    let lead = wide(read_at(timing, x));
-    let origin = origin_of(file, net, mode);
-    put_registers(s as u16, from, lead, origin, count, total, plan);
-    write_at(plan, SOURCES + (3 * e + p), last_of(from, total, count));
+    let end = from.wires[ENDS + k] as usize;
+    let s = from.net.source(x, p);
+    let first = plan[FIRSTS + end] as usize;
+    let source = find_from(plan, from.copied[k], first, entries) as u16;
+    let count = count_on(from.net, from.mode, from.timing, x, s);
+    let lead = from.timing[x] as usize;
+    let origin = origin_of(from.net, from.mode);
+    let last = put_registers(s as u16, source, lead, origin, count, total, plan);
+    plan[SOURCES + (3 * e + p)] = last;
     total + count
 }
 
 // Lays the wires of entry e; gives the number of nodes. It gives up where there are more than 1,024.
 fn lay_entry(
-    file: &[u8],
-    net: &[u16],
-    timing: &[u16],
-    wires: &[u16],
-    copied: &[u16],
-    made: Plan,
+    from: &Retiming,
+    entries: usize,
+    total: usize,
     e: usize,
-    plan: &mut [u16],
+    plan: &mut [u16; PLAN],
 ) -> usize
-    requires circuit { Circuit file.now net.now }
-    requires asked { let N = net_of file.now net.now in Planning N (mode_timing made.mode N) timing.now (roots_in timing.now) (passes_in timing.now)
-        (ends_in wires.now) copied.now (firsts_in plan.old)
-        × (length timing.now ≡ 3072) × (length wires.now ≡ 10240) × (length copied.now ≡ 3072) × (length plan.old ≡ 7168)
-        × (made.entries ≡ entry_count N (mode_timing made.mode N)) × (made.total ≤ 1024) × (e < made.entries)
-        × Laid N (mode_timing made.mode N) (owners_in plan.old) (words_in plan.old) (late_in plan.old) (sources_in plan.old) (3 * e) made.total }
-    ensures { let N = net_of file.now net.now in (result ≤ 1024 → Laid N (mode_timing made.mode N) (owners_in plan.new) (words_in plan.new) (late_in plan.new) (sources_in plan.new)
-        (3 * e + 3) result)
-        × (1024 < result → AllLaid N (mode_timing made.mode N) (owners_in plan.new) (words_in plan.new) (late_in plan.new) (sources_in plan.new) result)
-        × (firsts_in plan.new ≡ firsts_in plan.old) }
+    requires planned { IsPlanned from.now plan.old }
+    requires entries { entries ≡ entry_count (net_of from.now) (timing_of from.now) }
+    requires total { total ≤ 1024 }
+    requires entry { e < entries }
+    requires laid { LaysTo from.now plan.old (3 * e) total }
+    ensures exact { result ≤ 1024 → LaysTo from.now plan.new (3 * e + 3) result }
+    ensures over { 1024 < result → LaysAll from.now plan.new result }
+    ensures firsts { firsts_in plan.new ≡ firsts_in plan.old }
 {
-    let mode = made.mode;
-    let entries = made.entries;
-    let mut total = made.total;
-    let x = wide(read_at(plan, e));
-    let n = source_count(file, net, x);
-    let mut p: usize = 0;
-    while p < n {
+    let mut total = total;
+    let x = plan[e] as usize;
+    for p in 0..from.net.source_count(x) {
         if 1024 < total {
             return total;
         }
-        let so_far = Plan {
-            mode,
-            entries,
-            total,
-        };
-        let to = Operand { e, p };
-        total = lay_wire(file, net, timing, wires, copied, so_far, to, plan);
-        p = p + 1;
+        total = lay_wire(from, entries, total, Operand { e, p }, x, plan);
     }
     total
 }
 
 // Lays all wires; gives the number of nodes. It gives up where there are more than 1,024.
-pub fn lay_wires(
-    file: &[u8],
-    net: &[u16],
-    mode: Mode,
-    timing: &[u16],
-    wires: &[u16],
-    copied: &[u16],
-    entries: usize,
-    plan: &mut [u16],
-) -> usize
-    requires circuit { Circuit file.now net.now }
-    requires asked { let N = net_of file.now net.now in Planning N (mode_timing mode N) timing.now (roots_in timing.now) (passes_in timing.now)
-        (ends_in wires.now) copied.now (firsts_in plan.old)
-        × (length timing.now ≡ 3072) × (length wires.now ≡ 10240) × (length copied.now ≡ 3072)
-        × (entries ≡ entry_count N (mode_timing mode N)) × (length plan.old ≡ 7168)
-        × Laid N (mode_timing mode N) (owners_in plan.old) (words_in plan.old) (late_in plan.old) (sources_in plan.old) 0 entries }
-    ensures { let N = net_of file.now net.now in AllLaid N (mode_timing mode N) (owners_in plan.new) (words_in plan.new) (late_in plan.new) (sources_in plan.new) result }
+pub(crate) fn lay_wires(from: &Retiming, entries: usize, plan: &mut [u16; PLAN]) -> usize
+    requires planned { IsPlanned from.now plan.old }
+    requires entries { entries ≡ entry_count (net_of from.now) (timing_of from.now) }
+    requires laid { LaysTo from.now plan.old 0 entries }
+    ensures { LaysAll from.now plan.new result }
 {
     let mut total = entries;
-    let mut e: usize = 0;
-    while e < entries {
+    for e in 0..entries {
         if 1024 < total {
             return total;
         }
-        let made = Plan {
-            mode,
-            entries,
-            total,
-        };
-        total = lay_entry(file, net, timing, wires, copied, made, e, plan);
-        e = e + 1;
+        total = lay_entry(from, entries, total, e, plan);
     }
     total
 }

@@ -4,57 +4,55 @@
 
 mod sources;
 
-ghost use Rattle.std.specs.Prelude.{◌≡◌, length};
-ghost use Rattle.circuit.specs.Circuit.{net_of, Circuit};
-ghost use Rattle.retiming.specs.BySource.{by_source};
-ghost use Rattle.retiming.specs.RegistersLast.{RegistersLast};
-ghost use Rattle.retiming.specs.Preview.{previewed, preview_file};
-ghost use Rattle.preview.specs.Previewing.{Measures};
+ghost use Rattle.std.specs.Prelude.{◌≡◌};
+ghost use Rattle.retiming.specs.Preview.{preview_file};
+ghost use Rattle.preview.specs.Previewing.{Measures, told};
 
-use circuit::{WORDS, count_kind, node_count, wide};
-use retime::{Retimed, retime_file};
+use circuit::codes::{CLOCKED_ROM, REGISTER};
+use circuit::{Netlist, WORDS};
+use netlist::Refusal;
+use retime::retime_file;
 use retiming::{Mode, Preview, Size};
 use saving::circuit_length;
 use sources::list_sources;
 
-// The size of a circuit, beside the largest lead of the netlist that it was made from.
-fn measure(file: &[u8], new: &[u16], lead: u16) -> Size
-    requires circuit { Circuit file.now new.now }
-    ensures { let M = net_of file.now new.now in Measures M lead result }
+// The size of a netlist, beside the largest lead of the one that it was made from.
+fn measure(net: &Netlist, lead: u16) -> Size
+    ensures { Measures net.now.net lead result }
 {
-    let registers = count_kind(file, new, 2);
+    let registers = net.count_code(REGISTER);
     Size {
-        clocked: count_kind(file, new, 4) as u16,
+        clocked: net.count_code(CLOCKED_ROM) as u16,
         registers: registers as u16,
-        length: circuit_length(file, new),
+        length: circuit_length(net),
         lead,
-        sources: (node_count(file, new) - registers) as u16,
+        sources: (net.node_count() - registers) as u16,
     }
 }
 
-// The size and the list of a rewritten circuit, where the list is long enough: 14.
-fn measure_fitting(file: &[u8], new: &[u16], lead: u16, list: &mut [u8]) -> Preview
-    requires circuit { Circuit file.now new.now }
-    requires asked { let M = net_of file.now new.now in RegistersLast M (length (by_source M)) }
-    ensures { let M = net_of file.now new.now in (result ≡ (previewed M lead list.old).preview) × (list.new ≡ (previewed M lead list.old).list) }
+// The size and the list of the rewritten netlist, where the list is long enough: 14.
+fn measure_into(file: &[u8], list: &mut [u8]) -> Result<Size, Refusal>
+    ensures preview { told result ≡ (preview_file file.now list.old).preview }
+    ensures list { list.new ≡ (preview_file file.now list.old).list }
 {
-    let size = measure(file, new, lead);
-    let sources = wide(size.sources);
+    let mut words = [0u16; WORDS];
+    let new = retime_file(file, Mode::Plain, &mut words)?;
+    let size = measure(&new.net, new.lead);
+    let sources = size.sources as usize;
     if list.len() < 2 * sources {
-        return Preview::Refused(14, 65535);
+        return Err(Refusal::Out);
     }
-    list_sources(file, new, sources, list);
-    Preview::Fits(size)
+    list_sources(&new.net, sources, list);
+    Ok(size)
 }
 
 // The new file's size, and its registers by source in the list; or the refusal, after which no byte of the list differs.
 pub fn preview_file(file: &[u8], list: &mut [u8]) -> Preview
-    ensures { (result ≡ (preview_file file.now list.old).preview)
-        × (list.new ≡ (preview_file file.now list.old).list) }
+    ensures preview { result ≡ (preview_file file.now list.old).preview }
+    ensures list { list.new ≡ (preview_file file.now list.old).list }
 {
-    let mut new = [0u16; WORDS];
-    match retime_file(file, Mode::Plain, &mut new) {
-        Retimed::Refused(number, place) => Preview::Refused(number, place),
-        Retimed::Laid(lead) => measure_fitting(file, &new, lead, list),
+    match measure_into(file, list) {
+        Ok(size) => Preview::Fits(size),
+        Err(r) => Preview::Refused(r.number(), r.place()),
     }
 }

@@ -6,9 +6,8 @@ ghost use Rattle.retiming.specs.Rewrite.{root};
 ghost use Rattle.retiming.specs.RegistersLast.{RegistersLast};
 ghost use Rattle.retiming.specs.Preview.{source_bytes};
 ghost use Rattle.preview.specs.Counting.{Follows, Zeroed};
-ghost use Rattle.circuit.specs.Circuit.{net_of, Circuit};
 
-use circuit::{node_count, source_of};
+use circuit::Netlist;
 use words::{put_word, word_at};
 
 // Sets the first n bytes to 0.
@@ -16,16 +15,14 @@ fn clear(list: &mut [u8], n: usize)
     requires { n ≤ length list.old }
     ensures { list.new ≡ replicate n 0 ++ drop n list.old }
 {
-    let mut i: usize = 0;
-    while i < n {
-        list[i] = 0;
-        i = i + 1;
-    }
+    list[..n].fill(0);
 }
 
 // One more at number u.
 fn add_one(list: &mut [u8], u: usize)
-    requires { (u < 1024) × (2 * u + 1 < length list.old) × (word list.old (2 * u) < 65535) }
+    requires few { u < 1024 }
+    requires inside { 2 * u + 1 < length list.old }
+    requires room { word list.old (2 * u) < 65535 }
     ensures { list.new ≡ put_word list.old (2 * u) (word list.old (2 * u) + 1) }
 {
     let count = word_at(list, 2 * u);
@@ -33,37 +30,38 @@ fn add_one(list: &mut [u8], u: usize)
 }
 
 // Where the wire of register v comes from, from where that of the register before it does.
-fn wire_source(file: &[u8], new: &[u16], sources: usize, v: usize, before: usize) -> usize
-    requires circuit { Circuit file.now new.now }
-    requires asked { let M = net_of file.now new.now in RegistersLast M sources × (sources ≤ v) × (v < size M) × Follows M sources v before }
-    ensures { let M = net_of file.now new.now in (result ≡ root M v) × (result < sources) }
+fn wire_source(net: &Netlist, sources: usize, v: usize, before: usize) -> usize
+    requires last { RegistersLast net.now.net sources }
+    requires behind { sources ≤ v }
+    requires inside { v < size net.now.net }
+    requires follows { Follows net.now.net sources v before }
+    ensures root { result ≡ root net.now.net v }
+    ensures source { result < sources }
 {
-    let u = source_of(file, new, v, 0);
+    let u = net.source(v, 0);
     if u < sources { u } else { before }
 }
 
 // Counts each register at the source of its wire. The registers of a wire stand one after the other, from source to reader, so one pass finds all sources.
-fn count_registers(file: &[u8], new: &[u16], sources: usize, list: &mut [u8])
-    requires circuit { Circuit file.now new.now }
-    requires asked { let M = net_of file.now new.now in RegistersLast M sources × (2 * sources ≤ length list.old) × Zeroed list.old sources }
-    ensures { let M = net_of file.now new.now in list.new ≡ source_bytes M ++ drop (2 * sources) list.old }
+fn count_registers(net: &Netlist, sources: usize, list: &mut [u8])
+    requires last { RegistersLast net.now.net sources }
+    requires room { 2 * sources ≤ length list.old }
+    requires zeroed { Zeroed list.old sources }
+    ensures { list.new ≡ source_bytes net.now.net ++ drop (2 * sources) list.old }
 {
-    let n = node_count(file, new);
     let mut from: usize = 0;
-    let mut v = sources;
-    while v < n {
-        from = wire_source(file, new, sources, v, from);
+    for v in sources..net.node_count() {
+        from = wire_source(net, sources, v, from);
         add_one(list, from);
-        v = v + 1;
     }
 }
 
 // Writes the numbers of a rewritten netlist; the bytes behind them stay.
-pub fn list_sources(file: &[u8], new: &[u16], sources: usize, list: &mut [u8])
-    requires circuit { Circuit file.now new.now }
-    requires asked { let M = net_of file.now new.now in RegistersLast M sources × (2 * sources ≤ length list.old) }
-    ensures { let M = net_of file.now new.now in list.new ≡ source_bytes M ++ drop (2 * sources) list.old }
+pub fn list_sources(net: &Netlist, sources: usize, list: &mut [u8])
+    requires last { RegistersLast net.now.net sources }
+    requires room { 2 * sources ≤ length list.old }
+    ensures { list.new ≡ source_bytes net.now.net ++ drop (2 * sources) list.old }
 {
     clear(list, 2 * sources);
-    count_registers(file, new, sources, list);
+    count_registers(net, sources, list);
 }

@@ -2,10 +2,9 @@
 #![tactic(auto)]
 
 ghost use Rattle.std.specs.Prelude.{◌≡◌, ◌+◌, ◌≤◌, length};
-ghost use Rattle.circuit.specs.Circuit.{Circuit};
 
-use areas::{number_at, put_number};
-use circuit::{is_kind, node_count, source_of, wide};
+use areas::{at_or, put};
+use circuit::Netlist;
 use order::{Steps, count_at};
 
 // The sections of the work area: the nodes in the order in which the walk left them, its stack, and which nodes it met.
@@ -17,92 +16,75 @@ const MET: usize = 2048;
 pub const AREA: usize = 3072;
 
 // Notes the nodes that read nothing that counts, without a branch, so that the walk passes them by; gives their number.
-fn note_free(file: &[u8], net: &[u16], steps: Steps, area: &mut [u16]) -> usize
-    requires { Circuit file.now net.now }
+fn note_free(net: &Netlist, steps: Steps, area: &mut [u16]) -> usize
     ensures { result ≤ 1024 }
 {
-    let n = node_count(file, net);
+    let n = net.node_count();
     let mut noted: usize = 0;
-    let mut v: usize = 0;
-    while v < n {
-        let free = is_kind(count_at(file, net, steps, v), 0);
-        put_number(area, MET + v, free as u16);
-        put_number(area, noted, v as u16);
-        noted = noted + free;
-        v = v + 1;
+    for v in 0..n {
+        let free = count_at(net, steps, v) == 0;
+        put(area, MET + v, free as u16);
+        put(area, noted, v as u16);
+        noted += free as usize;
     }
     noted
 }
 
 // The first source of v that counts and was not met, or 65,535.
-fn next_unmet(file: &[u8], net: &[u16], steps: Steps, v: usize, area: &[u16]) -> usize
-    requires { Circuit file.now net.now }
+fn next_unmet(net: &Netlist, steps: Steps, v: usize, area: &[u16]) -> usize
     ensures { result ≤ 65535 }
 {
-    if v < node_count(file, net) {
-        let n = count_at(file, net, steps, v);
-        let mut p: usize = 0;
-        while p < n {
-            let u = source_of(file, net, v, p);
-            if number_at(area, MET + u) == 0 {
+    if v < net.node_count() {
+        let n = count_at(net, steps, v);
+        for p in 0..n {
+            let u = net.source(v, p);
+            if at_or(area, MET + u, 0) == 0 {
                 return u;
             }
-            p = p + 1;
         }
     }
     65535
 }
 
 // Walks from a root, and gives how many nodes are noted. Each step enters a node or leaves one.
-fn walk_from(
-    file: &[u8],
-    net: &[u16],
-    steps: Steps,
-    root: usize,
-    area: &mut [u16],
-    start: usize,
-) -> usize
-    requires { Circuit file.now net.now × (root ≤ 1024) × (start ≤ 4194304) }
+fn walk_from(net: &Netlist, steps: Steps, root: usize, area: &mut [u16], start: usize) -> usize
+    requires root { root ≤ 1024 }
+    requires start { start ≤ 4194304 }
     ensures { result ≤ start + 2048 }
 {
-    if 0 < number_at(area, MET + root) {
+    if 0 < at_or(area, MET + root, 0) {
         return start;
     }
-    put_number(area, MET + root, 1);
-    put_number(area, STACK, root as u16);
+    put(area, MET + root, 1);
+    put(area, STACK, root as u16);
     let mut depth: usize = 1;
     let mut noted = start;
-    let mut i: usize = 0;
-    while i < 2048 {
+    for _i in 0..2048usize {
         if depth == 0 {
             return noted;
         }
-        let v = wide(number_at(area, STACK + depth - 1));
-        let u = next_unmet(file, net, steps, v, area);
+        let v = at_or(area, STACK + depth - 1, 0) as usize;
+        let u = next_unmet(net, steps, v, area);
         if u < 1024 {
-            put_number(area, MET + u, 1);
-            put_number(area, STACK + depth, u as u16);
-            depth = depth + 1;
+            put(area, MET + u, 1);
+            put(area, STACK + depth, u as u16);
+            depth += 1;
         } else {
-            put_number(area, noted, v as u16);
-            noted = noted + 1;
-            depth = depth - 1;
+            put(area, noted, v as u16);
+            noted += 1;
+            depth -= 1;
         }
-        i = i + 1;
     }
     noted
 }
 
 // Proposes an order of the nodes by steps of a class, sources before readers: the first words of the work area.
-pub fn propose(file: &[u8], net: &[u16], steps: Steps, area: &mut [u16])
-    requires { Circuit file.now net.now }
+pub fn propose(net: &Netlist, steps: Steps, area: &mut [u16])
     ensures { length area.new ≡ length area.old }
 {
-    let n = node_count(file, net);
-    let mut noted = note_free(file, net, steps, area);
-    let mut root: usize = 0;
-    while root < n {
-        noted = walk_from(file, net, steps, root, area, noted);
-        root = root + 1;
+    let n = net.node_count();
+    let mut noted = note_free(net, steps, area);
+    for root in 0..n {
+        noted = walk_from(net, steps, root, area, noted);
     }
 }

@@ -3,12 +3,10 @@ use Rattle.std.specs.Prelude.{◌≡◌, List, ℕ, ◌≤◌, length}
 use Rattle.std.proofs.Common.{sym, ap, ◌∙◌, arith}
 use Rattle.netlist.specs.Scan.{Scan, refused, found, scan}
 use Rattle.netlist.proofs.ScanLaws.{scan_found}
-use Rattle.netlist.specs.Verdict.{reader_verdict}
+use Rattle.netlist.specs.Verdict.{reader_verdict, Verdict, Fine, Refuses}
 use Rattle.netlist.specs.File.{net_in, decoded, judged, decode, file_verdict, answer, check_answer}
 use Rattle.netlist.specs.declared.Answer.{Answer}
 use Rattle.netlist.specs.declared.Answer.TheVariants.{Accepted, Refused}
-use Rattle.netlist.specs.declared.Verdict.{Verdict}
-use Rattle.netlist.specs.declared.Verdict.TheVariants.{Fine, Refuses}
 use Rattle.retiming.specs.declared.Size.{Size}
 use Rattle.retiming.specs.declared.Preview.{Preview}
 use Rattle.retiming.specs.declared.Preview.TheVariants.{Fits}

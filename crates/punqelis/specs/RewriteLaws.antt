@@ -2,8 +2,7 @@
 use Rattle.std.specs.Prelude.{◌≡◌, refl, true, false, List, ℕ, ◌≤◌, length, ltb}
 use Rattle.std.proofs.Common.{sym, subst, ⊎_elim, arith}
 use Rattle.lists.proofs.BelowLaws.{true_or_false}
-use Rattle.netlist.specs.declared.Verdict.{Verdict}
-use Rattle.netlist.specs.declared.Verdict.TheVariants.{Fine, Refuses}
+use Rattle.netlist.specs.Verdict.{Verdict, Fine, Refuses}
 use Rattle.codec.specs.Bytes.{Bytes}
 use Rattle.retiming.specs.declared.Preview.{Preview}
 use Rattle.retiming.specs.declared.Preview.TheVariants.{Fits}

@@ -9,11 +9,9 @@ use Rattle.lists.proofs.ListsLaws.{length-select}
 use Rattle.netlist.specs.Net.{Net, size, element_at, width_at, is_output, holds_word}
 use Rattle.netlist.specs.Scan.{Scan, refused, found, scan}
 use Rattle.netlist.proofs.ScanLaws.{scan_found}
-use Rattle.netlist.specs.Verdict.{onward, reader_verdict}
+use Rattle.netlist.specs.Verdict.{onward, reader_verdict, Verdict, Fine, Refuses}
 use Rattle.netlist.specs.File.{net_in, decoded, decode, decoded_net, judged, file_verdict}
 use Rattle.netlist.proofs.FileLaws.{size_in}
-use Rattle.netlist.specs.declared.Verdict.{Verdict}
-use Rattle.netlist.specs.declared.Verdict.TheVariants.{Fine, Refuses}
 use Rattle.behaviour.specs.Runs.{input_widths, output_widths, state_widths}
 use Rattle.behaviour.specs.Service.{room_for, fitting_bytes, reset_by, reset_verdict, reset_file, run_by, run_verdict, run_file}
 use Rattle.punqelis.specs.CodeLaws.{LengthWithin, accepted_within, refused_within}

@@ -30,18 +30,6 @@ pub struct PunqelisSize {
     pub sources: u32,
 }
 
-fn wide8(x: u8) -> u32
-    ensures { (result ≡ x) × (result ≤ 255) }
-{
-    x as u32
-}
-
-fn wide16(x: u16) -> u32
-    ensures { (result ≡ x) × (result ≤ 65535) }
-{
-    x as u32
-}
-
 // The number of an answer whose length is no more than a file's.
 fn code(a: Answer) -> u32
     requires { LengthWithin 65535 a }
@@ -49,7 +37,7 @@ fn code(a: Answer) -> u32
 {
     match a {
         Answer::Accepted(n) => n as u32,
-        Answer::Refused(number, place) => wide8(number) * 65536 + wide16(place),
+        Answer::Refused(number, place) => number as u32 * 65536 + place as u32,
     }
 }
 
@@ -71,10 +59,10 @@ fn numbers(p: Preview) -> PunqelisSize
     match p {
         Preview::Fits(size) => PunqelisSize {
             answer: code(Answer::Accepted(size.length)),
-            clocked_roms: wide16(size.clocked),
-            registers: wide16(size.registers),
-            largest_lead: wide16(size.lead),
-            sources: wide16(size.sources),
+            clocked_roms: size.clocked as u32,
+            registers: size.registers as u32,
+            largest_lead: size.lead as u32,
+            sources: size.sources as u32,
         },
         Preview::Refused(number, place) => PunqelisSize {
             answer: code(Answer::Refused(number, place)),
@@ -95,17 +83,17 @@ pub fn punqelis_check(file: &[u8]) -> u32
 
 // Fills a state with the reset words: its length, or the refusal, which leaves the state as it was.
 pub fn punqelis_reset(file: &[u8], state: &mut [u8]) -> u32
-    ensures { (result ≡ as_number (reset_file file.now state.old).answer)
-        × (state.new ≡ (reset_file file.now state.old).state) }
+    ensures answer { result ≡ as_number (reset_file file.now state.old).answer }
+    ensures state { state.new ≡ (reset_file file.now state.old).state }
 {
     code(reset_state(file, state))
 }
 
 // Runs one clock: the length of the outputs, or the refusal, which leaves state and outputs as they were.
 pub fn punqelis_run(file: &[u8], state: &mut [u8], inputs: &[u8], outputs: &mut [u8]) -> u32
-    ensures { (result ≡ as_number (run_file file.now state.old inputs.now outputs.old).answer)
-        × (state.new ≡ (run_file file.now state.old inputs.now outputs.old).state)
-        × (outputs.new ≡ (run_file file.now state.old inputs.now outputs.old).outputs) }
+    ensures answer { result ≡ as_number (run_file file.now state.old inputs.now outputs.old).answer }
+    ensures state { state.new ≡ (run_file file.now state.old inputs.now outputs.old).state }
+    ensures outputs { outputs.new ≡ (run_file file.now state.old inputs.now outputs.old).outputs }
 {
     code(run_clock(file, state, inputs, outputs))
 }
@@ -118,33 +106,33 @@ pub fn punqelis_run_list(
     outputs: &mut [u8],
     clocks: usize,
 ) -> u32
-    ensures { (result ≡ as_code (run_list_file file.now state.old inputs.now outputs.old clocks).answer)
-        × (state.new ≡ (run_list_file file.now state.old inputs.now outputs.old clocks).state)
-        × (outputs.new ≡ (run_list_file file.now state.old inputs.now outputs.old clocks).outputs) }
+    ensures answer { result ≡ as_code (run_list_file file.now state.old inputs.now outputs.old clocks).answer }
+    ensures state { state.new ≡ (run_list_file file.now state.old inputs.now outputs.old clocks).state }
+    ensures outputs { outputs.new ≡ (run_list_file file.now state.old inputs.now outputs.old clocks).outputs }
 {
     refusal_code(run_list(file, state, inputs, outputs, clocks))
 }
 
 // Rewrites a file so that all its ROMs are clocked: the new file's length, or the refusal, which leaves the output as it was.
 pub fn punqelis_rewrite(file: &[u8], out: &mut [u8]) -> u32
-    ensures { (result ≡ as_number (rewrite_file file.now out.old).answer)
-        × (out.new ≡ (rewrite_file file.now out.old).out) }
+    ensures answer { result ≡ as_number (rewrite_file file.now out.old).answer }
+    ensures out { out.new ≡ (rewrite_file file.now out.old).out }
 {
     code(rewrite_file(file, out))
 }
 
 // Rewrites a file with a late start, for a ROM straight behind an input port: likewise.
 pub fn punqelis_rewrite_late(file: &[u8], out: &mut [u8]) -> u32
-    ensures { (result ≡ as_number (late_rewrite file.now out.old).answer)
-        × (out.new ≡ (late_rewrite file.now out.old).out) }
+    ensures answer { result ≡ as_number (late_rewrite file.now out.old).answer }
+    ensures out { out.new ≡ (late_rewrite file.now out.old).out }
 {
     code(rewrite_late(file, out))
 }
 
 // What rewriting a file would give: the new file's size, and its registers by source in the list; or the refusal (1 to 14), which leaves the list as it was.
 pub fn punqelis_preview(file: &[u8], list: &mut [u8]) -> PunqelisSize
-    ensures { (result ≡ as_numbers (preview_file file.now list.old).preview)
-        × (list.new ≡ (preview_file file.now list.old).list) }
+    ensures numbers { result ≡ as_numbers (preview_file file.now list.old).preview }
+    ensures list { list.new ≡ (preview_file file.now list.old).list }
 {
     numbers(preview_file(file, list))
 }

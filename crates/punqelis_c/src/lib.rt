@@ -23,8 +23,8 @@ pub extern "C" fn punqelis_check(file: &[u8]) -> u32
 // Fills a state with the reset words: its length, or the refusal, which leaves the state as it was.
 #[unsafe(no_mangle)]
 pub extern "C" fn punqelis_reset(file: &[u8], state: &mut [u8]) -> u32
-    ensures { (result ≡ as_number (reset_file file.now state.old).answer)
-        × (state.new ≡ (reset_file file.now state.old).state) }
+    ensures answer { result ≡ as_number (reset_file file.now state.old).answer }
+    ensures state { state.new ≡ (reset_file file.now state.old).state }
 {
     punqelis::punqelis_reset(file, state)
 }
@@ -37,9 +37,9 @@ pub extern "C" fn punqelis_run(
     inputs: &[u8],
     outputs: &mut [u8],
 ) -> u32
-    ensures { (result ≡ as_number (run_file file.now state.old inputs.now outputs.old).answer)
-        × (state.new ≡ (run_file file.now state.old inputs.now outputs.old).state)
-        × (outputs.new ≡ (run_file file.now state.old inputs.now outputs.old).outputs) }
+    ensures answer { result ≡ as_number (run_file file.now state.old inputs.now outputs.old).answer }
+    ensures state { state.new ≡ (run_file file.now state.old inputs.now outputs.old).state }
+    ensures outputs { outputs.new ≡ (run_file file.now state.old inputs.now outputs.old).outputs }
 {
     punqelis::punqelis_run(file, state, inputs, outputs)
 }
@@ -53,9 +53,9 @@ pub extern "C" fn punqelis_run_list(
     outputs: &mut [u8],
     clocks: usize,
 ) -> u32
-    ensures { (result ≡ as_code (run_list_file file.now state.old inputs.now outputs.old clocks).answer)
-        × (state.new ≡ (run_list_file file.now state.old inputs.now outputs.old clocks).state)
-        × (outputs.new ≡ (run_list_file file.now state.old inputs.now outputs.old clocks).outputs) }
+    ensures answer { result ≡ as_code (run_list_file file.now state.old inputs.now outputs.old clocks).answer }
+    ensures state { state.new ≡ (run_list_file file.now state.old inputs.now outputs.old clocks).state }
+    ensures outputs { outputs.new ≡ (run_list_file file.now state.old inputs.now outputs.old clocks).outputs }
 {
     punqelis::punqelis_run_list(file, state, inputs, outputs, clocks)
 }
@@ -63,8 +63,8 @@ pub extern "C" fn punqelis_run_list(
 // Rewrites a file so that all its ROMs are clocked: the new file's length, or the refusal, which leaves the output as it was.
 #[unsafe(no_mangle)]
 pub extern "C" fn punqelis_rewrite(file: &[u8], out: &mut [u8]) -> u32
-    ensures { (result ≡ as_number (rewrite_file file.now out.old).answer)
-        × (out.new ≡ (rewrite_file file.now out.old).out) }
+    ensures answer { result ≡ as_number (rewrite_file file.now out.old).answer }
+    ensures out { out.new ≡ (rewrite_file file.now out.old).out }
 {
     punqelis::punqelis_rewrite(file, out)
 }
@@ -72,8 +72,8 @@ pub extern "C" fn punqelis_rewrite(file: &[u8], out: &mut [u8]) -> u32
 // Rewrites a file with a late start, for a ROM straight behind an input port: likewise.
 #[unsafe(no_mangle)]
 pub extern "C" fn punqelis_rewrite_late(file: &[u8], out: &mut [u8]) -> u32
-    ensures { (result ≡ as_number (late_rewrite file.now out.old).answer)
-        × (out.new ≡ (late_rewrite file.now out.old).out) }
+    ensures answer { result ≡ as_number (late_rewrite file.now out.old).answer }
+    ensures out { out.new ≡ (late_rewrite file.now out.old).out }
 {
     punqelis::punqelis_rewrite_late(file, out)
 }
@@ -81,8 +81,8 @@ pub extern "C" fn punqelis_rewrite_late(file: &[u8], out: &mut [u8]) -> u32
 // What rewriting a file would give: the new file's size, and its registers by source in the list; or the refusal (1 to 14), which leaves the list as it was.
 #[unsafe(no_mangle)]
 pub extern "C" fn punqelis_preview(file: &[u8], list: &mut [u8]) -> PunqelisSize
-    ensures { (result ≡ as_numbers (preview_file file.now list.old).preview)
-        × (list.new ≡ (preview_file file.now list.old).list) }
+    ensures numbers { result ≡ as_numbers (preview_file file.now list.old).preview }
+    ensures list { list.new ≡ (preview_file file.now list.old).list }
 {
     punqelis::punqelis_preview(file, list)
 }

@@ -1,4 +1,5 @@
 -- A field's content by its bytes in the file. Assumes nothing.
+use Rattle.std.specs.Prelude.{Option}
 use mathlib.Core.Path.{◌≡◌, refl, sym, ap, ap₂, ◌∙◌}
 use mathlib.Core.Bool.{Bool, true, false}
 use mathlib.Core.List.{List, [], ◌∷◌}
@@ -21,7 +22,6 @@ use Rattle.netlist.specs.ScanLaws.{NodeAt}
 use Rattle.netlist.specs.File.{node_in}
 use Rattle.netlist.specs.declared.Element.{Element}
 use Rattle.netlist.specs.declared.Element.TheVariants.{Register, Async, Clocked, Gate}
-use Rattle.netlist.specs.declared.ElementRead.{ElementRead}
 use Rattle.netlist.specs.declared.Node.{Node}
 use Rattle.nodes.specs.Room.{room}
 use Rattle.circuit.specs.Code.{code_of}
@@ -73,7 +73,7 @@ module _ (s : List ℕ) (at : ℕ) where
 
     pub element_in : element_unchecked (content s at) ≡ (node_in s at).element
     unfolding node_in node_read
-    element_in = sym (ap (λ (r : ElementRead). (node_with (content s at) r).node.element) (unchecked (content s at) p.good))
+    element_in = sym (ap (λ (r : Option Element). (node_with (content s at) r).node.element) (unchecked (content s at) p.good))
 
     pub sources_room : first_source (element_unchecked (content s at)) + 2 * operands (element_unchecked (content s at)) ≤ length_at s at
     sources_room = omega (arith, room (content s at) (element_unchecked (content s at)) (unchecked (content s at) p.good), size_in)
@@ -88,7 +88,7 @@ module _ (s : List ℕ) (at : ℕ) where
         let y : w ≡ get_or c 1 0 = b ∙ sym (byte_in s at 1 long ∙ ap (λ (k : ℕ). get_or s k 0) (let q : at + 3 + 1 ≡ at + 4 = omega arith in q)) in
         let z : l ≡ sources_from c (first_source (element_unchecked c)) (operands (element_unchecked c)) =
         d ∙ ap (λ (k : Element). sources_from s (at + 3 + first_source k) (operands k)) x ∙ sources_in_lem (first_source (element_unchecked c)) (operands (element_unchecked c)) sources_room in
-        (λ i. record { element = x i; width = y i; sources = z i }) ∙ sym (ap (λ (r : ElementRead). (node_with c r).node) (unchecked c p.good))
+        (λ i. record { element = x i; width = y i; sources = z i }) ∙ sym (ap (λ (r : Option Element). (node_with c r).node) (unchecked c p.good))
 
     -- ---- the element, by the kind that stands in the file
 

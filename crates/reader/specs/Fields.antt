@@ -1,5 +1,5 @@
 -- The fields as the code goes through them: tables as long as one stands there, nodes as long as one does, then the end. Assumes nothing.
-use Rattle.std.specs.Prelude.{◌≡◌, ◌⊎◌, false, List, ℕ, ◌+◌, ◌≤◌, ◌<◌, get_or, ltb, eqb}
+use Rattle.std.specs.Prelude.{◌≡◌, ◌⊎◌, false, List, ℕ, ◌+◌, ◌≤◌, ◌<◌, get_or, ltb, eqb, Result, Ok, Err}
 use Rattle.std.proofs.Math.Path.{refl, sym}
 use Rattle.std.proofs.Common.{◌∙◌, true≢false, arith}
 use Rattle.std.proofs.Math.Logic.{inl, inr, ⊎_elim}
@@ -11,9 +11,9 @@ use Rattle.lists.specs.Paths.{pick}
 use Rattle.lists.proofs.Paths.{arms, arms_lt, arms_eq, on_true, on_false, on_lt, off_lt, on_eq, off_eq}
 use Rattle.lists.proofs.BelowLaws.{lt_or_le}
 use Rattle.netlist.specs.Field.{tag_at, field_end}
-use Rattle.netlist.specs.declared.Verdict.{Verdict}
-use Rattle.netlist.specs.declared.Verdict.TheVariants.{Fine, Refuses}
-use Rattle.netlist.specs.Scan.{Step, Refuse, TableField, NodeField, EndField, table_step, node_step, end_step, step_at}
+use Rattle.netlist.specs.declared.Refusal.{Refusal}
+use Rattle.netlist.specs.Refusal.{number_of, place_of}
+use Rattle.netlist.specs.Scan.{Step, Refuse, table_step, node_step, end_step, step_at}
 
 -- a table's content that has address bits and width, and neither is too large
 abbrev pub Sized : List ℕ → Type 0
@@ -30,16 +30,14 @@ table_stands s at = pick (whole s at) (pick (eqb (tag_at s at) 2) true (eqb (tag
 unfoldable pub node_stands : List ℕ → ℕ → Bool
 node_stands s at = pick (whole s at) (eqb (tag_at s at) 3) false
 
+-- a step that goes on with what was found, or the refusal of it
+abbrev pub stepped : {A : Type 0} → (A → Step) → Result A Refusal → Step
+stepped goes (Ok x) = goes x
+stepped goes (Err r) = Refuse (number_of r) (place_of r)
+
 -- behind tables and nodes
 unfoldable pub last_step : List ℕ → ℕ → Step
 last_step s at = pick (whole s at) (pick (eqb (tag_at s at) 4) (end_step s at) (Refuse 3 at)) (Refuse 2 at)
-
--- what it says of the file: it is never a table or a node
-abbrev pub verdict_of : Step → Verdict
-verdict_of (Refuse k p) = Refuses k p
-verdict_of (TableField next) = Fine
-verdict_of (NodeField next) = Fine
-verdict_of EndField = Fine
 
 module _ (s : List ℕ) (at : ℕ) where
   pub whole_inside : whole s at ≡ true → (at + 3 ≤ length s) × (field_end s at ≤ length s)

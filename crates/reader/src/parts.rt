@@ -8,53 +8,53 @@ ghost use Rattle.netlist.specs.File.{node_in};
 ghost use Rattle.circuit.specs.Code.{code_of};
 ghost use Rattle.reader.specs.Parts.{Holds};
 
-use nodes::good::wide8;
+use circuit::codes::{ASYNC_ROM, CLOCKED_ROM, CONSTANT, GATE, INPUT, PART, REGISTER};
+use nodes::kind::Kind;
 use nodes::{Sources, sources_from};
 use words::{operand_count, word_at};
 
 // The code of the node whose field stands at an offset: its kind, and of a gate 8 more than its operation.
 pub fn code_at(file: &[u8], at: usize) -> usize
     requires { NodeAt file.now at }
-    ensures { (result ≡ code_of (node_in file.now at).element) × (result < 20) }
+    ensures code { result ≡ code_of (node_in file.now at).element }
+    ensures few { result < 20 }
 {
     let kind = file[at + 3];
-    if kind == 5 {
-        8 + wide8(file[at + 5])
+    if kind == Kind::Gate as u8 {
+        GATE + file[at + 5] as usize
     } else {
-        wide8(kind)
+        kind as usize
     }
 }
 
 // How many sources it has: a gate as many as the array says of its operation; what is neither a gate nor an input port has one.
 pub fn count_by_code(code: usize) -> usize
     requires { code < 20 }
-    ensures { ((e : Element) → code ≡ code_of e → result ≡ operands e) × (result ≤ 3) }
+    ensures count { (e : Element) → code ≡ code_of e → result ≡ operands e }
+    ensures few { result ≤ 3 }
 {
-    if 7 < code {
-        return operand_count(code - 8);
+    if GATE <= code {
+        return operand_count(code - GATE);
     }
-    if code == 0 { 0 } else { 1 }
+    if code == INPUT { 0 } else { 1 }
 }
 
 fn first_by_code(code: usize) -> usize
-    ensures { ((e : Element) → code ≡ code_of e → result ≡ first_source e) × (result ≤ 3) }
+    ensures first { (e : Element) → code ≡ code_of e → result ≡ first_source e }
+    ensures few { result ≤ 3 }
 {
-    if code < 5 { 2 } else { 3 }
+    if code <= CLOCKED_ROM { 2 } else { 3 }
 }
 
 // Its sources, of which n count.
 pub fn sources_at(file: &[u8], at: usize, code: usize, n: usize) -> Sources
-    requires { NodeAt file.now at × (code ≡ code_of (node_in file.now at).element) × (n ≡ operands (node_in file.now at).element) }
+    requires node { NodeAt file.now at }
+    requires code { code ≡ code_of (node_in file.now at).element }
+    requires count { n ≡ operands (node_in file.now at).element }
     ensures { result ≡ (node_in file.now at).sources }
 {
     let from = at + 3 + first_by_code(code);
     sources_from(file, from, n)
-}
-
-fn byte_word(x: u8) -> u16
-    ensures { (result ≡ x) × (result < 256) }
-{
-    x as u16
 }
 
 // The number that a node holds, and its table; 0 where it has none.
@@ -65,28 +65,29 @@ pub struct Held {
 }
 
 pub fn held_at(file: &[u8], at: usize, code: usize) -> Held
-    requires { NodeAt file.now at × (code ≡ code_of (node_in file.now at).element) }
+    requires node { NodeAt file.now at }
+    requires code { code ≡ code_of (node_in file.now at).element }
     ensures { Holds (node_in file.now at).element result.number result.table }
 {
     match code {
-        2 => Held {
+        REGISTER => Held {
             number: word_at(file, at + 7),
             table: 0,
         },
-        3 => Held {
+        ASYNC_ROM => Held {
             number: 0,
-            table: byte_word(file[at + 7]),
+            table: file[at + 7] as u16,
         },
-        4 => Held {
+        CLOCKED_ROM => Held {
             number: word_at(file, at + 8),
-            table: byte_word(file[at + 7]),
+            table: file[at + 7] as u16,
         },
-        8 => Held {
+        CONSTANT => Held {
             number: word_at(file, at + 6),
             table: 0,
         },
-        18 => Held {
-            number: byte_word(file[at + 8]),
+        PART => Held {
+            number: file[at + 8] as u16,
             table: 0,
         },
         _ => Held {

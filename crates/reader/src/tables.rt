@@ -5,24 +5,16 @@ ghost use Rattle.words.specs.Words.{fits, word};
 ghost use Rattle.netlist.specs.TableField.{words_good, filled_good, body_good, table_good};
 ghost use Rattle.reader.specs.Fields.{Sized};
 
+use super::{FILLED, TABLE};
 use words::{fits_width, word_at};
-
-fn larger(a: u16, b: u16) -> u16
-    ensures { result ≡ max a b }
-{
-    if a < b { b } else { a }
-}
 
 // The largest of a list of words. One test of it stands for a test of each, so that the loop has no exit and runs wide.
 fn largest_word(words: &[u8]) -> u16
     ensures { result ≡ largest (length words.now / 2) (λ a. word words.now (2 * a)) }
 {
-    let n = words.len() / 2;
     let mut most: u16 = 0;
-    let mut i: usize = 0;
-    while i < n {
-        most = larger(most, word_at(words, 2 * i));
-        i = i + 1;
+    for i in 0..words.len() / 2 {
+        most = most.max(word_at(words, 2 * i));
     }
     most
 }
@@ -42,54 +34,46 @@ fn words_fit(words: &[u8], width: u8) -> bool
 // How many words a table of so many address bits has.
 fn word_count(bits: u8) -> usize
     requires { bits ≤ 10 }
-    ensures { (result ≡ 2 ^ bits) × (result ≤ 1024) }
+    ensures count { result ≡ 2 ^ bits }
+    ensures few { result ≤ 1024 }
 {
     1usize << bits
 }
 
 // Tag 2: a word for each address.
+#[tactic(auto, using(std::proofs::lemmas::Bool::Decides::nat_tests, crate::proofs::Largest::behind_fit), unfolding(netlist::specs::TableField::words_good, lists::specs::Paths::pick))]
 fn words_good(c: &[u8]) -> bool
     requires { Sized c.now }
     ensures { result ≡ words_good c.now }
 {
-    if c.len() != 2 + 2 * word_count(c[0]) {
-        return false;
-    }
-    words_fit(&c[2..], c[1])
+    c.len() == 2 + 2 * word_count(c[0]) && words_fit(&c[2..], c[1])
 }
 
 // Tag 5: a fill word, then from one word to a word for each address.
+#[tactic(auto, using(std::proofs::lemmas::Bool::Decides::nat_tests, crate::proofs::Largest::behind_fit), unfolding(netlist::specs::TableField::filled_good, lists::specs::Paths::pick))]
 fn filled_good(c: &[u8]) -> bool
     requires { Sized c.now }
     ensures { result ≡ filled_good c.now }
 {
     let len = c.len();
-    let width = c[1];
-    if len < 6 {
-        return false;
-    }
-    if 4 + 2 * word_count(c[0]) < len {
-        return false;
-    }
-    if len % 2 != 0 {
-        return false;
-    }
     // The fill word is among them, also where no address reads it.
-    words_fit(&c[2..], width)
+    6 <= len && len <= 4 + 2 * word_count(c[0]) && len % 2 == 0 && words_fit(&c[2..], c[1])
 }
 
 // What follows address bits and width.
+#[tactic(auto, using(std::proofs::lemmas::Bool::Decides::nat_tests), unfolding(netlist::specs::TableField::body_good, lists::specs::Paths::pick))]
 fn body_good(tag: u8, c: &[u8]) -> bool
     requires { Sized c.now }
     ensures { result ≡ body_good tag c.now }
 {
     match tag {
-        2 => words_good(c),
-        5 => filled_good(c),
+        TABLE => words_good(c),
+        FILLED => filled_good(c),
         _ => false,
     }
 }
 
+#[tactic(auto, using(std::proofs::lemmas::Bool::Decides::nat_tests), unfolding(netlist::specs::TableField::table_good, lists::specs::Paths::pick))]
 pub fn table_good(tag: u8, c: &[u8]) -> bool
     ensures { result ≡ table_good tag c.now }
 {
@@ -98,17 +82,5 @@ pub fn table_good(tag: u8, c: &[u8]) -> bool
     }
     let bits = c[0];
     let width = c[1];
-    if bits == 0 {
-        return false;
-    }
-    if 10 < bits {
-        return false;
-    }
-    if width == 0 {
-        return false;
-    }
-    if 16 < width {
-        return false;
-    }
-    body_good(tag, c)
+    1 <= bits && bits <= 10 && 1 <= width && width <= 16 && body_good(tag, c)
 }

@@ -2,8 +2,7 @@
 use Rattle.std.specs.Prelude.{◌≡◌, List, map, ℕ}
 use Rattle.std.proofs.Common.{ap, ap₂, sym, ◌∙◌}
 use Rattle.netlist.specs.Net.{Table, Net}
-use Rattle.netlist.specs.declared.Verdict.{Verdict}
-use Rattle.netlist.specs.Verdict.{onward}
+use Rattle.netlist.specs.Verdict.{Verdict, onward}
 use Rattle.netlist.specs.File.{Decoded, good, decode, decoded_net, encode}
 use Rattle.netlist.specs.Respelled.{Respelled, over, spelled_table, spelled_net}
 use Rattle.netlist.proofs.Respelled.{spelled_respelled}

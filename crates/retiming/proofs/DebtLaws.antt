@@ -5,7 +5,7 @@ use Rattle.std.proofs.lemmas.Bool.{false≢true}
 use borrow.Author.Tests.{lt-ltb, ltb-true}
 use Rattle.lists.proofs.BelowLaws.{true_or_false}
 use Rattle.netlist.specs.Net.{Net, size, element_at, is_input, Sourced}
-use Rattle.netlist.specs.declared.Verdict.TheVariants.{Refuses}
+use Rattle.netlist.specs.Verdict.{Refuses}
 use Rattle.retiming.specs.Leads.{lead, closed_debt, owing_port}
 use Rattle.retiming.proofs.Owing.{owing_is, is_owing, no_lead, not_owing}
 use Rattle.retiming.specs.LeadsLaws.{PositiveClosed}

@@ -6,11 +6,10 @@
 use Rattle.std.specs.Prelude.{◌≡◌, ◌↔◌, ◌⊎◌, List, ℕ, ◌<◌, length, get_or}
 use Rattle.netlist.specs.Net.{Net, size, Behaves}
 use Rattle.netlist.specs.Checks.{WellFormed}
-use Rattle.netlist.specs.Verdict.{reader_verdict}
+use Rattle.netlist.specs.Verdict.{reader_verdict, Fine}
 use Rattle.netlist.proofs.VerdictLaws.{reader_fine}
 use Rattle.netlist.specs.File.{good, decode}
 use Rattle.netlist.specs.declared.Answer.TheVariants.{Refused}
-use Rattle.netlist.specs.declared.Verdict.TheVariants.{Fine}
 use Rattle.codec.specs.Bytes.{Bytes}
 use Rattle.codec.proofs.DecodeWithin.{decode_within}
 use Rattle.behaviour.specs.Run.{run_word}

@@ -6,7 +6,7 @@ use Rattle.netlist.specs.declared.Element.TheVariants.{Input, Output, Register, 
 use Rattle.netlist.specs.Net.{Net, size, table_of, element_at, is_register, is_input, is_output}
 use Rattle.netlist.specs.Trim.{table_number, over_table, trimmed}
 use Rattle.netlist.proofs.Trimmed.{size-trimmed, inside_trimmed, element_trimmed, width_trimmed}
-use Rattle.netlist.specs.declared.Verdict.TheVariants.{Fine}
+use Rattle.netlist.specs.Verdict.{Fine}
 use Rattle.netlist.specs.File.{decode, decoded_net, good}
 use Rattle.codec.specs.Bytes.{Bytes}
 use Rattle.behaviour.specs.Run.{zero_word}

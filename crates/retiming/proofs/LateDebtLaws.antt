@@ -5,7 +5,7 @@ use Rattle.std.proofs.lemmas.Bool.{false≢true}
 use borrow.Author.Tests.{lt-ltb, ltb-true}
 use Rattle.lists.proofs.BelowLaws.{true_or_false}
 use Rattle.netlist.specs.Net.{Net, size, element_at, is_input, Sourced}
-use Rattle.netlist.specs.declared.Verdict.TheVariants.{Refuses}
+use Rattle.netlist.specs.Verdict.{Refuses}
 use Rattle.retiming.specs.LateLeads.{at_output, late_ends, closed_debt_to, owing_port_to}
 use Rattle.retiming.proofs.LateLeadsLaws.{closed_debt_iff, owes_iff, owing_is, is_owing}
 use Rattle.retiming.specs.LateRewrite.{late_started}

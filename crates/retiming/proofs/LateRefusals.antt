@@ -4,10 +4,9 @@ use Rattle.std.proofs.Common.{arith}
 use Rattle.netlist.specs.Net.{Net, size}
 use Rattle.netlist.specs.Checks.{WellFormed}
 use Rattle.netlist.proofs.VerdictLaws.{reader_fine}
-use Rattle.netlist.specs.Verdict.{reader_verdict}
+use Rattle.netlist.specs.Verdict.{reader_verdict, Fine, Refuses}
 use Rattle.netlist.specs.File.{good, decode}
 use Rattle.netlist.specs.declared.Answer.TheVariants.{Refused}
-use Rattle.netlist.specs.declared.Verdict.TheVariants.{Fine, Refuses}
 use Rattle.codec.specs.Bytes.{Bytes}
 use Rattle.codec.proofs.DecodeWithin.{decode_within}
 use Rattle.retiming.proofs.OutLaws.{kept, short_iff, said_iff}

@@ -5,7 +5,7 @@
 use Rattle.std.specs.Prelude.{◌≡◌, false, List, [], ◌∷◌, ◌++◌, ℕ, ◌≤◌, length, drop}
 use Rattle.std.proofs.Common.{sym, ap, subst, ◌∙◌}
 use Rattle.netlist.specs.declared.Answer.TheVariants.{Accepted}
-use Rattle.netlist.specs.declared.Verdict.TheVariants.{Fine}
+use Rattle.netlist.specs.Verdict.{Fine}
 use Rattle.netlist.specs.File.{file_verdict, ReadAs}
 use Rattle.codec.specs.Bytes.{Bytes}
 use Rattle.behaviour.specs.Service.{reset_file, Entry, runs_file}

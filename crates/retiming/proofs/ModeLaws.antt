@@ -11,8 +11,7 @@ use Rattle.netlist.specs.Checks.{WellFormed, TablesRead}
 use Rattle.netlist.specs.Trim.{trimmed}
 use Rattle.netlist.proofs.Trimmed.{size-trimmed}
 use Rattle.netlist.proofs.NothingTrimmed.{trimmed_same}
-use Rattle.netlist.specs.declared.Verdict.TheVariants.{Fine}
-use Rattle.netlist.specs.Verdict.{at_lowest, of_whole, verdict}
+use Rattle.netlist.specs.Verdict.{Fine, at_lowest, of_whole, verdict}
 use Rattle.behaviour.specs.Run.{zero_word}
 use Rattle.retiming.specs.declared.Mode.{Mode}
 use Rattle.retiming.specs.declared.Mode.TheVariants.{Plain, Late}

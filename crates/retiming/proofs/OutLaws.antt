@@ -6,8 +6,7 @@ use Rattle.std.proofs.Common.{sym, ◌∙◌, ⊎_elim, arith, lt-ltb, le-ltb}
 use Rattle.lists.proofs.BelowLaws.{lt_or_le}
 use Rattle.netlist.proofs.VerdictLaws.{refuses_not}
 use Rattle.netlist.specs.declared.Answer.TheVariants.{Accepted, Refused}
-use Rattle.netlist.specs.declared.Verdict.{Verdict}
-use Rattle.netlist.specs.declared.Verdict.TheVariants.{Fine, Refuses}
+use Rattle.netlist.specs.Verdict.{Verdict, Fine, Refuses}
 use Rattle.retiming.specs.FileRewrite.{out_verdict, written_by, written, written_after}
 
 module _ (b out : List ℕ) where

@@ -3,11 +3,9 @@ use Rattle.std.specs.Prelude.{◌≡◌, List, ℕ}
 use Rattle.std.proofs.Math.Path.{refl, ap}
 use Rattle.std.proofs.Common.{◌∙◌}
 use Rattle.netlist.specs.Net.{Net}
-use Rattle.netlist.specs.Verdict.{onward, reader_verdict}
+use Rattle.netlist.specs.Verdict.{onward, reader_verdict, Verdict, Fine, Refuses}
 use Rattle.netlist.proofs.VerdictLaws.{refuses_not}
 use Rattle.netlist.specs.File.{Decoded, bad, good, decode, decoded_net, judged, file_verdict}
-use Rattle.netlist.specs.declared.Verdict.{Verdict}
-use Rattle.netlist.specs.declared.Verdict.TheVariants.{Fine, Refuses}
 use Rattle.retiming.specs.Past.{judged_by, Past}
 
 module _ (debts : Net → Verdict) (s : List ℕ) where

@@ -5,7 +5,7 @@ use Rattle.std.proofs.lemmas.Bool.{false≢true}
 use Rattle.lists.specs.Lists.{any_below}
 use Rattle.lists.proofs.BelowLaws.{true_or_false, any_below_elim}
 use Rattle.netlist.specs.Net.{Net, size}
-use Rattle.netlist.specs.declared.Verdict.TheVariants.{Fine}
+use Rattle.netlist.specs.Verdict.{Fine}
 use Rattle.netlist.specs.Checks.{Bounds}
 use Rattle.retiming.specs.Leads.{closed_debt, owing_port, port_debt}
 use Rattle.retiming.specs.Debt.{grown, debt_stages, debt_verdict}

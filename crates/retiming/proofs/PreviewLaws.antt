@@ -9,7 +9,7 @@ use Rattle.std.proofs.Math.Seq.{take-append_seam}
 use Rattle.lists.proofs.BelowLaws.{count_below-le}
 use Rattle.netlist.specs.Net.{Net, size, element_at, is_register, is_clocked, count_of}
 use Rattle.netlist.specs.NodeField.{kind_of}
-use Rattle.netlist.specs.Verdict.{onward, reader_stages}
+use Rattle.netlist.specs.Verdict.{onward, reader_stages, Verdict, Fine, Refuses}
 use Rattle.netlist.proofs.VerdictLaws.{both_fine, first_or_next}
 use Rattle.netlist.specs.Numbers.{Says, SaysEach}
 use Rattle.netlist.proofs.Numbers.{says_verdict, says_onward, says_file}
@@ -18,8 +18,6 @@ use Rattle.netlist.specs.declared.Element.{Element}
 use Rattle.netlist.specs.declared.Element.TheVariants.{Input, Output, Register, Async, Clocked, Gate}
 use Rattle.netlist.specs.declared.Answer.TheVariants.{Accepted}
 use Rattle.netlist.specs.declared.Answer.TheVariants as answer
-use Rattle.netlist.specs.declared.Verdict.{Verdict}
-use Rattle.netlist.specs.declared.Verdict.TheVariants.{Fine, Refuses}
 use Rattle.codec.specs.Bytes.{Bytes}
 use Rattle.behaviour.proofs.WordBytes.{length-bytes}
 use Rattle.retiming.specs.declared.Size.{Size}

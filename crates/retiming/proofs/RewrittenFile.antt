@@ -3,14 +3,12 @@ use Rattle.std.specs.Prelude.{◌≡◌, refl, false, List, ◌++◌, ℕ, ◌�
 use Rattle.std.proofs.Common.{sym, subst, ◌∙◌, arith}
 use Rattle.std.proofs.Math.Path.{ap}
 use Rattle.netlist.specs.declared.Answer.TheVariants.{Accepted}
-use Rattle.netlist.specs.declared.Verdict.{Verdict}
-use Rattle.netlist.specs.declared.Verdict.TheVariants.{Fine}
+use Rattle.netlist.specs.Verdict.{Verdict, Fine, onward}
 use Rattle.netlist.specs.Net.{Net, size, element_at, is_async}
 use Rattle.netlist.specs.Checks.{Bounds, WellFormed, TablesRead}
 use Rattle.netlist.specs.Trim.{trimmed}
 use Rattle.netlist.proofs.Trimmed.{fewer_tables, inside_trimmed, blind_trimmed, trimmed-read}
 use Rattle.netlist.proofs.TrimmedRules.{blind_async}
-use Rattle.netlist.specs.Verdict.{onward}
 use Rattle.netlist.proofs.VerdictLaws.{reader_fine, reader_tables}
 use Rattle.netlist.specs.File.{Decoded, decode, decoded_net, judged, file_verdict, ReadAs, encode}
 use Rattle.codec.specs.Bytes.{Bytes}

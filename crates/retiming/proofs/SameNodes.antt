@@ -1,6 +1,6 @@
 -- Laws of what specs/SameNodes.antt defines. Assumes nothing.
 use Rattle.std.specs.Prelude.{◌≡◌, List, ℕ}
-use Rattle.netlist.specs.declared.Verdict.TheVariants.{Fine}
+use Rattle.netlist.specs.Verdict.{Fine}
 use Rattle.netlist.specs.Net.{Net}
 use Rattle.netlist.specs.File.{decode, good}
 use Rattle.codec.specs.Bytes.{Bytes}

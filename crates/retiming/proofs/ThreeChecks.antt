@@ -8,9 +8,7 @@ use Rattle.lists.proofs.BelowLaws.{true_or_false, Lowest, lowest_from_is}
 use Rattle.lists.proofs.SearchLaws.{lowest_here}
 use Rattle.netlist.proofs.Places.{skip}
 use Rattle.netlist.proofs.VerdictLaws.{refuses_not}
-use Rattle.netlist.specs.declared.Verdict.{Verdict}
-use Rattle.netlist.specs.declared.Verdict.TheVariants.{Fine, Refuses}
-use Rattle.netlist.specs.Verdict.{Stage, verdict, of_whole, at_lowest}
+use Rattle.netlist.specs.Verdict.{Verdict, Fine, Refuses, Stage, verdict, of_whole, at_lowest}
 
 -- ---- one check: it refuses at the lowest place that it finds bad
 

@@ -2,8 +2,7 @@
 -- counts only closed walks that can reach an output, 12 only walks from an input port to an output port." Assumes nothing.
 use Rattle.std.specs.Prelude.{List, [], ◌∷◌}
 use Rattle.netlist.specs.Net.{Net, size}
-use Rattle.netlist.specs.declared.Verdict.{Verdict}
-use Rattle.netlist.specs.Verdict.{Stage, at_lowest, of_whole, verdict}
+use Rattle.netlist.specs.Verdict.{Verdict, Stage, at_lowest, of_whole, verdict}
 use Rattle.retiming.specs.LateLeads.{late_ends, closed_debt_to, owing_port_to}
 use Rattle.retiming.specs.LateRewrite.{late_started}
 use Rattle.retiming.specs.Debt.{grown}

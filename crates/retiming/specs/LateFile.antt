@@ -1,9 +1,7 @@
 -- The late start on bytes: document 02, T-05, "a late-start rewriting, chosen by the caller". Assumes nothing.
 use Rattle.std.specs.Prelude.{◌≡◌, List, [], ℕ}
-use Rattle.netlist.specs.Verdict.{onward}
+use Rattle.netlist.specs.Verdict.{onward, Verdict, Fine}
 use Rattle.netlist.specs.File.{Decoded, bad, good, decode, decoded_net, file_verdict, encode}
-use Rattle.netlist.specs.declared.Verdict.{Verdict}
-use Rattle.netlist.specs.declared.Verdict.TheVariants.{Fine}
 use Rattle.retiming.specs.FileRewrite.{Rewrote, written_after}
 use Rattle.retiming.specs.LateRewrite.{late_started}
 use Rattle.retiming.specs.LateDebt.{late_verdict}

@@ -2,7 +2,7 @@
 use Rattle.std.specs.Prelude.{Bool, List, ℕ}
 use Rattle.netlist.specs.Net.{Net}
 use Rattle.netlist.specs.Trim.{trimmed}
-use Rattle.netlist.specs.declared.Verdict.{Verdict}
+use Rattle.netlist.specs.Verdict.{Verdict}
 use Rattle.retiming.specs.declared.Mode.{Mode}
 use Rattle.retiming.specs.declared.Mode.TheVariants.{Plain, Late}
 use Rattle.retiming.specs.Leads.{closed_debt, owing_port}

@@ -2,10 +2,8 @@
 -- Assumes nothing.
 use Rattle.std.specs.Prelude.{◌≡◌, List, ℕ}
 use Rattle.netlist.specs.Net.{Net}
-use Rattle.netlist.specs.Verdict.{onward}
+use Rattle.netlist.specs.Verdict.{onward, Verdict, Fine}
 use Rattle.netlist.specs.File.{decode, decoded_net, file_verdict, ReadAs}
-use Rattle.netlist.specs.declared.Verdict.{Verdict}
-use Rattle.netlist.specs.declared.Verdict.TheVariants.{Fine}
 
 module _ (debts : Net → Verdict) (s : List ℕ) where
   abbrev pub judged_by : Verdict

@@ -3,10 +3,8 @@
 use Rattle.std.specs.Prelude.{cond, List, ◌++◌, ℕ, length, drop}
 use Rattle.lists.specs.Lists.{largest}
 use Rattle.netlist.specs.Net.{Net, size, element_at, is_register, is_clocked, count_of}
-use Rattle.netlist.specs.Verdict.{onward}
+use Rattle.netlist.specs.Verdict.{onward, Verdict, Fine, Refuses}
 use Rattle.netlist.specs.File.{decode, decoded_net, given, encode}
-use Rattle.netlist.specs.declared.Verdict.{Verdict}
-use Rattle.netlist.specs.declared.Verdict.TheVariants.{Fine, Refuses}
 use Rattle.behaviour.specs.Service.{bytes_of}
 use Rattle.retiming.specs.declared.Size.{Size}
 use Rattle.retiming.specs.declared.Preview.{Preview}

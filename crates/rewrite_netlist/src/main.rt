@@ -1,4 +1,5 @@
 // Reads a netlist file on standard input and writes the rewritten file, or the line `refused 12 0` (number, place).
+// What the three rewriting programs share is `rewrite_stream`; each has a `main` of its own, which names the mode.
 #![tactic(auto)]
 
 use retiming::Mode;

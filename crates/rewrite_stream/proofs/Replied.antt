@@ -10,8 +10,7 @@ use lib.Seq.{take-append_seam, take_at}
 use Rattle.codec.specs.Bytes.{Bytes}
 use Rattle.netlist.specs.declared.Answer.{Answer}
 use Rattle.netlist.specs.declared.Answer.TheVariants.{Accepted, Refused}
-use Rattle.netlist.specs.declared.Verdict.{Verdict}
-use Rattle.netlist.specs.declared.Verdict.TheVariants.{Fine, Refuses}
+use Rattle.netlist.specs.Verdict.{Verdict, Fine, Refuses}
 use Rattle.retiming.specs.declared.Mode.{Mode}
 use Rattle.retiming.specs.FileRewrite.{Rewrote, written_after}
 use Rattle.retiming.specs.Modes.{mode_file_verdict, mode_file, mode_rewrite}

@@ -5,8 +5,7 @@ use Rattle.std.specs.Io.KnownBytes.{Appends, Consumes, Keeps}
 use Rattle.std.specs.declared.option.Option.{Option}
 use Rattle.codec.specs.Bytes.{Bytes}
 use Rattle.netlist.specs.declared.Answer.{Answer}
-use Rattle.netlist.specs.declared.Verdict.{Verdict}
-use Rattle.netlist.specs.declared.Verdict.TheVariants.{Fine, Refuses}
+use Rattle.netlist.specs.Verdict.{Verdict, Fine, Refuses}
 use Rattle.retiming.specs.declared.Mode.{Mode}
 use Rattle.retiming.specs.Modes.{mode_file_verdict, mode_file, mode_rewrite}
 use Rattle.streams.specs.Streams.{AppendsFront}

@@ -42,7 +42,8 @@ fn write_refusal<W: Write>(to: &mut W, number: u8, place: u16) -> io::Result<()>
 
 // Rewrites, and says besides that what it was lent is bytes: of an array that was read into, its holder knows the length alone.
 fn rewrite_bytes(file: &[u8], mode: Mode, out: &mut [u8]) -> Answer
-    ensures answer { (result ≡ (mode_rewrite mode file.now out.old).answer) × Bytes file.now }
+    ensures answer { result ≡ (mode_rewrite mode file.now out.old).answer }
+    ensures bytes { Bytes file.now }
     ensures written { out.new ≡ (mode_rewrite mode file.now out.old).out }
 {
     rewrite_in(file, mode, out)

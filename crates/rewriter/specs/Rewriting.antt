@@ -3,21 +3,15 @@ use Rattle.std.specs.Prelude.{◌≡◌, true, false, List, ◌++◌, ℕ, ◌�
 use Rattle.std.proofs.Common.{sym, ap, ◌∙◌, ⊎_elim, zero-le, arith, ltb-false}
 use Rattle.lists.proofs.BelowLaws.{true_or_false}
 use Rattle.netlist.specs.Net.{Net}
-use Rattle.netlist.specs.File.{encode}
+use Rattle.netlist.specs.File.{decode, decoded_net, encode}
 use Rattle.netlist.specs.declared.Answer.{Answer}
 use Rattle.netlist.specs.declared.Answer.TheVariants.{Accepted, Refused}
-use Rattle.netlist.specs.declared.Verdict.{Verdict}
-use Rattle.netlist.specs.declared.Verdict.TheVariants.{Fine, Refuses}
-use Rattle.circuit.specs.Circuit.{net_of}
+use Rattle.netlist.specs.Verdict.{Verdict, Fine, Refuses}
 use Rattle.retiming.specs.declared.Mode.{Mode}
 use Rattle.retiming.specs.FileRewrite.{Rewrote, written_by, written, written_after}
 use Rattle.retiming.proofs.OutLaws.{out_short, out_long}
-use Rattle.retiming.specs.Modes.{mode_file_verdict, mode_file, mode_rewrite}
+use Rattle.retiming.specs.Modes.{mode_net, mode_file_verdict, mode_file, mode_rewrite}
 use Rattle.retiming.proofs.RewrittenFile.{mode_rewrite_lem, mode_file_lem}
-use Rattle.retime.specs.declared.Retimed.{Retimed}
-use Rattle.retime.specs.declared.Retimed.TheVariants.{Laid}
-use Rattle.retime.specs.declared.Retimed.TheVariants as retimed
-use Rattle.retime.specs.Laying.{LaysFile, laid_accepted, laid-refused}
 
 -- ---- answer and output, as they are stated
 
@@ -35,16 +29,15 @@ long_enough b out h = sym (ap (λ (v : Verdict). written_by v b out) (out_long b
 
 -- ---- by what is laid
 
-module _ (mode : Mode) {s l : List ℕ} {r : Retimed} (t : LaysFile mode s l r) (out : List ℕ) where
-  pub laid_none : {k p : ℕ} → r ≡ retimed.Refused k p → record { answer = Refused k p; out = out } ≡ mode_rewrite mode s out
-  laid_none q = sym (mode_rewrite_lem mode s out ∙ ap (λ (v : Verdict). written_after v (mode_file mode s) out) (laid-refused mode t q))
+module _ (mode : Mode) (s out : List ℕ) where
+  pub laid_none : {k p : ℕ} → Refuses k p ≡ mode_file_verdict mode s → record { answer = Refused k p; out = out } ≡ mode_rewrite mode s out
+  laid_none e = sym (mode_rewrite_lem mode s out ∙ ap (λ (v : Verdict). written_after v (mode_file mode s) out) (sym e))
 
-  pub laid-written : {m : ℕ} → r ≡ Laid m → written (encode (net_of s l)) out ≡ mode_rewrite mode s out
-  laid-written q =
-      let (accepted, lead, laid) = laid_accepted mode t q in
-      ap (λ (M : Net). written (encode M) out) laid.0
-      ∙ ap (λ (b : List ℕ). written b out) (mode_file_lem mode s accepted)
-      ∙ sym (mode_rewrite_lem mode s out ∙ ap (λ (v : Verdict). written_after v (mode_file mode s) out) accepted)
+  pub laid-written : {M : Net} → Fine ≡ mode_file_verdict mode s → M ≡ mode_net mode (decoded_net (decode s)) → written (encode M) out ≡ mode_rewrite mode s out
+  laid-written fine laid =
+      ap (λ (N : Net). written (encode N) out) laid
+      ∙ ap (λ (b : List ℕ). written b out) (mode_file_lem mode s (sym fine))
+      ∙ sym (mode_rewrite_lem mode s out ∙ ap (λ (v : Verdict). written_after v (mode_file mode s) out) (sym fine))
 
 -- ---- an accepted length is within the output
 

@@ -1,78 +1,73 @@
 // Check 17: a table that no node reads.
 ghost use Rattle.std.specs.Prelude.{◌≡◌, ℕ, ◌≤◌, ◌<◌, length, get_or, set, eqb};
 ghost use Rattle.lists.specs.Lists.{one, lowest};
-ghost use Rattle.netlist.specs.Net.{size, element_at};
+ghost use Rattle.netlist.specs.Net.{Net, size, element_at};
 ghost use Rattle.netlist.specs.Checks.{HasTables};
 ghost use Rattle.netlist.specs.Verdict.{reads_table, unread_table};
 ghost use Rattle.rules.specs.TableMarks.{Unmarked, TableMarks};
-ghost use Rattle.circuit.specs.Circuit.{net_of, Circuit};
 
-use circuit::{async_rom, clocked_rom, node_count, table_count, table_of};
+use circuit::Netlist;
 
 // The table that node v reads; 16, which no table has for a number, where it is no ROM. Kinds follow no pattern: to look at the table of each is cheaper than a branch.
-fn table_read(file: &[u8], net: &[u16], v: usize) -> usize
-    requires circuit { Circuit file.now net.now }
-    requires asked { let N = net_of file.now net.now in (v < size N) × HasTables N }
-    ensures { let N = net_of file.now net.now in ((m : ℕ) → m < 16 → eqb result m ≡ reads_table (element_at N v) m) × (result ≤ 16) }
+fn table_read(net: &Netlist, v: usize) -> usize
+    requires node { v < size net.now.net }
+    requires tables { HasTables net.now.net }
+    ensures reads { (m : ℕ) → m < 16 → eqb result m ≡ reads_table (element_at net.now.net v) m }
+    ensures few { result ≤ 16 }
 {
-    let memory = async_rom(file, net, v) + clocked_rom(file, net, v);
-    let table = table_of(file, net, v);
-    if memory == 1 { table } else { 16 }
+    net.bounds();
+    let table = net.table(v);
+    if net.is_memory(v) { table } else { 16 }
 }
 
-// Marks place k. Gives 1 where it had no mark.
-fn mark(marks: &mut [u8], k: usize) -> usize
+// Marks place k. Tells whether it had no mark.
+fn mark(marks: &mut [u8], k: usize) -> bool
     requires { k < length marks.old }
-    ensures { (marks.new ≡ set marks.old k 1) × (result ≡ one (eqb (get_or marks.old k 0) 0)) }
+    ensures marks { marks.new ≡ set marks.old k 1 }
+    ensures new { result ≡ eqb (get_or marks.old k 0) 0 }
 {
-    let new = if marks[k] == 0 { 1 } else { 0 };
+    let new = marks[k] == 0;
     marks[k] = 1;
     new
 }
 
 // Marks each table that a node reads, and looks no further once all are marked. What is no ROM marks the place behind the tables, which has a mark already.
-pub fn mark_tables(file: &[u8], net: &[u16], marks: &mut [u8])
-    requires circuit { Circuit file.now net.now }
-    requires asked { let N = net_of file.now net.now in HasTables N × Unmarked marks.old }
-    ensures { let N = net_of file.now net.now in TableMarks N marks.new }
+pub fn mark_tables(net: &Netlist, marks: &mut [u8])
+    requires tables { HasTables net.now.net }
+    requires unmarked { Unmarked marks.old }
+    ensures { TableMarks net.now.net marks.new }
 {
-    let n = node_count(file, net);
-    let mut left = table_count(file, net);
+    let n = net.node_count();
+    let mut left = net.table_count();
     marks[16] = 1;
-    let mut v: usize = 0;
-    while v < n {
+    for v in 0..n {
         if left == 0 {
             return;
         }
-        left = left - mark(marks, table_read(file, net, v));
-        v = v + 1;
+        left -= mark(marks, table_read(net, v)) as usize;
     }
 }
 
 // The lowest table without a mark, or the number of tables.
-fn lowest_unmarked(file: &[u8], net: &[u16], marks: &[u8]) -> usize
-    requires circuit { Circuit file.now net.now }
-    requires asked { let N = net_of file.now net.now in TableMarks N marks.now }
-    ensures { let N = net_of file.now net.now in result ≡ lowest (length N.tables) (unread_table N) }
+fn lowest_unmarked(net: &Netlist, marks: &[u8]) -> usize
+    requires { TableMarks net.now.net marks.now }
+    ensures { let N = net.now.net in result ≡ lowest (length N.tables) (unread_table N) }
 {
-    let n = table_count(file, net);
-    let mut m: usize = 0;
-    while m < n {
+    let n = net.table_count();
+    for m in 0..n {
         if marks[m] == 0 {
             return m;
         }
-        m = m + 1;
     }
-    m
+    n
 }
 
 // The lowest table that check 17 refuses, or the number of tables.
-pub fn lowest_unread_table(file: &[u8], net: &[u16]) -> usize
-    requires circuit { Circuit file.now net.now }
-    requires asked { let N = net_of file.now net.now in HasTables N }
-    ensures { let N = net_of file.now net.now in result ≡ lowest (length N.tables) (unread_table N) }
+pub fn lowest_unread_table(net: &Netlist) -> usize
+    requires { HasTables net.now.net }
+    ensures { let N = net.now.net in result ≡ lowest (length N.tables) (unread_table N) }
 {
     let mut marks = [0u8; 17];
-    mark_tables(file, net, &mut marks);
-    lowest_unmarked(file, net, &marks)
+    mark_tables(net, &mut marks);
+    lowest_unmarked(net, &marks)
 }

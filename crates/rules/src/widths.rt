@@ -1,143 +1,128 @@
-// Check 7: the width rules.
+// Check 7: the width rules, by a node's code. (A `match` on the element is shorter. It was tried: on netlists of all kinds the check of a file took up to 9 % longer,
+// past the bar of 3 %, since its jumps are not foreseen as well.)
 ghost use Rattle.std.specs.Prelude.{◌≡◌, true, ◌&&◌, ℕ, ◌<◌, ◌≤◌};
 ghost use Rattle.lists.specs.Lists.{lowest};
-ghost use Rattle.netlist.specs.Net.{size, element_at, width_at, source, is_memory};
+ghost use Rattle.netlist.specs.Net.{Net, size, element_at, width_at, source, is_memory};
 ghost use Rattle.netlist.specs.Verdict.{widths_right, bad_width};
 ghost use Rattle.circuit.specs.Code.{code_of, Coded};
-ghost use Rattle.circuit.specs.Circuit.{net_of, Circuit};
 ghost use Rattle.rules.specs.Sides.{sides};
 
-use circuit::{
-    address_bits, code_of, node_count, number_of, source_of, table_of, width_of, word_width,
-};
-
-fn both(x: bool, y: bool) -> bool
-    ensures { result ≡ (x && y) }
-{
-    if x { y } else { false }
-}
+use circuit::Netlist;
+use circuit::codes::{AND, ASYNC_ROM, CHOOSE, CLOCKED_ROM, EQUAL, PART};
 
 // The width rule of a code with one source at most, no ROM's.
 fn lone_widths(code: usize, w: u8, a: u8) -> bool
-    requires { Coded code × (code ≤ 9) × (code ≡ 3 → ⊥) × (code ≡ 4 → ⊥) }
+    requires coded { Coded code }
+    requires few { code ≤ 9 }
+    requires no_async { code ≡ 3 → ⊥ }
+    requires no_clocked { code ≡ 4 → ⊥ }
     ensures { (b c : ℕ) → result ≡ sides code w a b c }
 {
-    // An input port and a constant have none.
-    if code % 8 == 0 { true } else { a == w }
+    // An input port and a constant have none: they have the codes that 8 divides.
+    code % 8 == 0 || a == w
 }
 
 // The width rule of a code with two sources, no join's. Two of them compare.
 fn two_widths(code: usize, w: u8, a: u8, b: u8) -> bool
-    requires { (9 < code) × (code ≤ 16) }
+    requires two { 9 < code }
+    requires few { code ≤ 16 }
     ensures { (c : ℕ) → result ≡ sides code w a b c }
 {
-    if 14 < code {
-        both(a == b, w == 1)
+    if code >= EQUAL {
+        a == b && w == 1
     } else {
-        both(a == w, b == w)
+        a == w && b == w
     }
 }
 
 // The width rule of node v, a ROM of width w whose source has width a.
-fn memory_widths(file: &[u8], net: &[u16], v: usize, w: u8, a: u8) -> bool
-    requires circuit { Circuit file.now net.now }
-    requires asked { let N = net_of file.now net.now in (v < size N) × (is_memory (element_at N v) ≡ true) }
-    ensures { let N = net_of file.now net.now in ((ws : ℕ → ℕ) → ws 0 ≡ a → result ≡ widths_right N.tables (element_at N v) w ws) }
+fn memory_widths(net: &Netlist, v: usize, w: u8, a: u8) -> bool
+    requires node { v < size net.now.net }
+    requires memory { is_memory (element_at net.now.net v) ≡ true }
+    ensures { let N = net.now.net in ((ws : ℕ → ℕ) → ws 0 ≡ a → result ≡ widths_right N.tables (element_at N v) w ws) }
 {
-    let k = table_of(file, net, v);
-    if a == address_bits(file, net, k) {
-        w == word_width(file, net, k)
-    } else {
-        false
-    }
+    let k = net.table(v);
+    a == net.address_bits(k) && w == net.word_width(k)
 }
 
 // The width rule of node v, a part of width w whose source has width a: its number is its lowest bit.
-fn part_widths(file: &[u8], net: &[u16], v: usize, w: u8, a: u8) -> bool
-    requires circuit { Circuit file.now net.now }
-    requires asked { let N = net_of file.now net.now in (v < size N) × (18 ≡ code_of (element_at N v)) }
-    ensures { let N = net_of file.now net.now in ((ws : ℕ → ℕ) → ws 0 ≡ a → result ≡ widths_right N.tables (element_at N v) w ws) }
+fn part_widths(net: &Netlist, v: usize, w: u8, a: u8) -> bool
+    requires node { v < size net.now.net }
+    requires code { 18 ≡ code_of (element_at net.now.net v) }
+    ensures { let N = net.now.net in ((ws : ℕ → ℕ) → ws 0 ≡ a → result ≡ widths_right N.tables (element_at N v) w ws) }
 {
-    number_of(file, net, v) + (w as usize) <= (a as usize)
+    net.number(v) + (w as usize) <= (a as usize)
 }
 
 // The width of node u; past the last 1, as the definitions say.
-fn width_at(file: &[u8], net: &[u16], u: usize) -> u8
-    requires circuit { Circuit file.now net.now }
-    ensures { let N = net_of file.now net.now in result ≡ width_at N u }
+fn width_at(net: &Netlist, u: usize) -> u8
+    ensures { result ≡ width_at net.now.net u }
 {
-    if u < node_count(file, net) {
-        width_of(file, net, u) as u8
+    if u < net.node_count() {
+        net.width(u) as u8
     } else {
         1
     }
 }
 
 // The width rule of node v, a gate of width w with two sources or three, the first of width a.
-fn gate_widths(file: &[u8], net: &[u16], v: usize, code: usize, w: u8, a: u8) -> bool
-    requires circuit { Circuit file.now net.now }
-    requires asked { let N = net_of file.now net.now in (v < size N) × (code ≡ code_of (element_at N v)) × (9 < code) × (code ≡ 18 → ⊥) × (a ≡ width_at N (source N v 0)) }
-    ensures { let N = net_of file.now net.now in result ≡ widths_right N.tables (element_at N v) w (λ p. width_at N (source N v p)) }
+fn gate_widths(net: &Netlist, v: usize, code: usize, w: u8, a: u8) -> bool
+    requires node { v < size net.now.net }
+    requires code { code ≡ code_of (element_at net.now.net v) }
+    requires two { 9 < code }
+    requires no_part { code ≡ 18 → ⊥ }
+    requires width { let N = net.now.net in a ≡ width_at N (source N v 0) }
+    ensures { let N = net.now.net in result ≡ widths_right N.tables (element_at N v) w (λ p. width_at N (source N v p)) }
 {
-    let b = width_at(file, net, source_of(file, net, v, 1));
-    if code < 17 {
+    let b = width_at(net, net.source(v, 1));
+    if code < CHOOSE {
         return two_widths(code, w, a, b);
     }
-    if code == 17 {
-        let c = width_at(file, net, source_of(file, net, v, 2));
-        return both(a == 1, both(b == w, c == w));
+    if code == CHOOSE {
+        let c = width_at(net, net.source(v, 2));
+        return a == 1 && b == w && c == w;
     }
     // A join.
     (a as u32) + (b as u32) == (w as u32)
 }
 
 // The width rule of node v by its code.
-fn width_rule(file: &[u8], net: &[u16], v: usize) -> bool
-    requires circuit { Circuit file.now net.now }
-    requires asked { let N = net_of file.now net.now in v < size N }
-    ensures { let N = net_of file.now net.now in result ≡ widths_right N.tables (element_at N v) (width_at N v) (λ p. width_at N (source N v p)) }
+fn width_rule(net: &Netlist, v: usize) -> bool
+    requires { v < size net.now.net }
+    ensures { let N = net.now.net in result ≡ widths_right N.tables (element_at N v) (width_at N v) (λ p. width_at N (source N v p)) }
 {
-    let code = code_of(file, net, v);
-    let w = width_of(file, net, v) as u8;
-    let a = width_at(file, net, source_of(file, net, v, 0));
+    let code = net.code(v);
+    let w = net.width(v) as u8;
+    let a = width_at(net, net.source(v, 0));
     match code {
-        3 => memory_widths(file, net, v, w, a),
-        4 => memory_widths(file, net, v, w, a),
-        18 => part_widths(file, net, v, w, a),
+        ASYNC_ROM | CLOCKED_ROM => memory_widths(net, v, w, a),
+        PART => part_widths(net, v, w, a),
         _ => {
-            if code < 10 {
+            if code < AND {
                 lone_widths(code, w, a)
             } else {
-                gate_widths(file, net, v, code, w, a)
+                gate_widths(net, v, code, w, a)
             }
         }
     }
 }
 
-fn bad_width(file: &[u8], net: &[u16], v: usize) -> bool
-    requires circuit { Circuit file.now net.now }
-    requires asked { let N = net_of file.now net.now in v < size N }
-    ensures { let N = net_of file.now net.now in result ≡ bad_width N v }
+fn bad_width(net: &Netlist, v: usize) -> bool
+    requires { v < size net.now.net }
+    ensures { result ≡ bad_width net.now.net v }
 {
-    if width_rule(file, net, v) {
-        false
-    } else {
-        true
-    }
+    !width_rule(net, v)
 }
 
 // The lowest node that check 7 refuses, or the number of nodes.
-pub fn lowest_bad_width(file: &[u8], net: &[u16]) -> usize
-    requires circuit { Circuit file.now net.now }
-    ensures { let N = net_of file.now net.now in result ≡ lowest (size N) (bad_width N) }
+pub fn lowest_bad_width(net: &Netlist) -> usize
+    ensures { let N = net.now.net in result ≡ lowest (size N) (bad_width N) }
 {
-    let n = node_count(file, net);
-    let mut v: usize = 0;
-    while v < n {
-        if bad_width(file, net, v) {
+    let n = net.node_count();
+    for v in 0..n {
+        if bad_width(net, v) {
             return v;
         }
-        v = v + 1;
     }
-    v
+    n
 }

@@ -2,15 +2,13 @@
 use mathlib.Core.Path.{◌≡◌, ap}
 use mathlib.Core.List.{List}
 use Prim.Native.Nat.{ℕ}
-use Rattle.netlist.specs.Verdict.{onward}
+use Rattle.netlist.specs.Verdict.{onward, Verdict, Refuses}
 use Rattle.netlist.specs.File.{decode, decoded_net, file_verdict}
 use Rattle.netlist.specs.declared.Answer.TheVariants.{Refused}
-use Rattle.netlist.specs.declared.Verdict.{Verdict}
-use Rattle.netlist.specs.declared.Verdict.TheVariants.{Refuses}
-use Rattle.circuit.specs.Circuit.{net_of}
+use Rattle.circuit.specs.Shown.{Shown}
 use Rattle.behaviour.specs.Service.{reset_by, reset_verdict, reset_net, reset_file, run_by, run_verdict, run_net, run_file}
 use Rattle.behaviour.proofs.ServiceLaws.{reset_file_lem, run_file_lem}
-use Rattle.checks.specs.Open.{Open}
+use Rattle.checks.specs.Open.{OpenedAs}
 
 -- ---- a file that is refused
 
@@ -24,9 +22,9 @@ run_turned_away s st ins outs e = let N = decoded_net (decode s) in ap (λ (v : 
 
 -- ---- a file that is taken
 
-module _ {s l : List ℕ} (o : Open s l) where
-  pub reset_taken : (st : List ℕ) → reset_file s st ≡ reset_net (net_of s l) st
-  reset_taken = reset_file_lem s (net_of s l) o.file
+module _ {s : List ℕ} {h : Shown} (o : OpenedAs s h) where
+  pub reset_taken : (st : List ℕ) → reset_file s st ≡ reset_net h.net st
+  reset_taken = reset_file_lem s h.net o.file
 
-  pub run_taken : (st ins outs : List ℕ) → run_file s st ins outs ≡ run_net (net_of s l) st ins outs
-  run_taken = run_file_lem s (net_of s l) o.file
+  pub run_taken : (st ins outs : List ℕ) → run_file s st ins outs ≡ run_net h.net st ins outs
+  run_taken = run_file_lem s h.net o.file

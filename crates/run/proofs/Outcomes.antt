@@ -9,8 +9,7 @@ use lib.Seq.{length-take-le}
 use borrow.Author.Tests.{eq-eqb, ne_eqb}
 use Rattle.lists.proofs.BelowLaws.{and_left, eqb-true}
 use Rattle.netlist.specs.Net.{Net, size}
-use Rattle.netlist.specs.declared.Verdict.{Verdict}
-use Rattle.netlist.specs.declared.Verdict.TheVariants.{Fine, Refuses}
+use Rattle.netlist.specs.Verdict.{Verdict, Fine, Refuses}
 use Rattle.behaviour.specs.Runs.{input_widths, output_widths, state_widths, fitting}
 use Rattle.behaviour.specs.Service.{words_in, room_for, fitting_bytes, reset_by, reset_net, Ran, run_by, run_net}
 use Rattle.evaluate.specs.Rows.{row_test, row_members, row_widths, row_count}
@@ -28,9 +27,9 @@ pub row_bytes_lem : {n k : ℕ} (l : List ℕ) → k ≤ length l → n ≡ 2 * 
 row_bytes_lem l h e = e ∙ ap (2 *◌) (counted l h)
 
 -- the first k of a work area are a row's members
-module _ (N : Net) (row : Row) {k : ℕ} (l : List ℕ) (m : (take k l ≡ row_members row N) × (k ≤ length l)) (b : List ℕ) where
+module _ (N : Net) (row : Row) {k : ℕ} (l : List ℕ) (members : take k l ≡ row_members row N) (few : k ≤ length l) (b : List ℕ) where
   words : length (row_widths row N) ≡ k
-  words = sym (counted l m.1 ∙ row_count row N m.0)
+  words = sym (counted l few ∙ row_count row N members)
 
   pub row_room : length b ≡ 2 * k → room_for (row_widths row N) b ≡ true
   row_room h = eq-eqb (length b) (2 * length (row_widths row N)) (omega (arith, words))

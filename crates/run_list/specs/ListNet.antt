@@ -7,8 +7,7 @@ use Rattle.lists.proofs.BelowLaws.{and_left, eqb-true}
 use Rattle.netlist.specs.Net.{in_clock, Net}
 use Rattle.netlist.specs.Checks.{WellFormed}
 use Rattle.netlist.specs.File.{ReadAs, answer, given}
-use Rattle.netlist.specs.declared.Verdict.{Verdict}
-use Rattle.netlist.specs.declared.Verdict.TheVariants.{Fine, Refuses}
+use Rattle.netlist.specs.Verdict.{Verdict, Fine, Refuses}
 use Rattle.codec.specs.Bytes.{Bytes}
 use Rattle.codec.proofs.WordsLaws.{last_words}
 use Rattle.circuit.specs.Order.{Complete}

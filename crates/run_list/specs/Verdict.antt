@@ -3,7 +3,7 @@ use Rattle.std.specs.Prelude.{◌≡◌, refl, Bool, true, false, ◌&&◌, List
 use Rattle.std.proofs.Common.{sym, ap, ◌∙◌, length-take-le}
 use Rattle.std.proofs.Math.Bool.{cond}
 use Rattle.netlist.specs.Net.{Net}
-use Rattle.netlist.specs.declared.Verdict.TheVariants.{Fine, Refuses}
+use Rattle.netlist.specs.Verdict.{Fine, Refuses}
 use Rattle.behaviour.specs.Runs.{input_widths, output_widths, state_widths}
 use Rattle.behaviour.specs.Service.{fitting_bytes}
 use Rattle.behaviour.specs.RunList.{row_bytes, room_for_rows, fitting_rows, list_verdict}

@@ -5,7 +5,7 @@ ghost use Rattle.std.specs.Prelude.{◌≡◌, true, ◌+◌, ◌*◌, ◌≤◌
 ghost use Rattle.lists.specs.Lists.{below, concat_map};
 ghost use Rattle.netlist.specs.Net.{size};
 ghost use Rattle.netlist.specs.Checks.{WellFormed};
-ghost use Rattle.circuit.specs.Circuit.{order_of, net_of, Circuit};
+ghost use Rattle.netlist.specs.Refusal.{said, answered};
 ghost use Rattle.behaviour.specs.Runs.{input_widths, output_widths, state_widths, fitting};
 ghost use Rattle.behaviour.specs.Service.{bytes_of, words_in};
 ghost use Rattle.behaviour.specs.RunList.{room_for_rows, fitting_rows, list_verdict, run_list_file};
@@ -18,95 +18,83 @@ ghost use Rattle.run_list.specs.Clocks.{shown_at};
 ghost use Rattle.run_list.specs.ListNet.{list_net, Asked};
 
 use checks::open_file;
+use circuit::{Draft, Netlist};
 use evaluate::Row;
 use evaluate::lent::{load_row, row_members};
 use grouping::group_nodes;
-use netlist::{Answer, Verdict};
+use netlist::{Answer, Refusal};
 use schedule::{SCHEDULE, Sizes, lay_out};
 use stepping::clock::{WORDS, clock, put_row};
 use words::put_word;
 
 // ---- 15 and 16
 
-// Whether so many bytes are just so many rows. Rows times clocks can be past every number, so it is divided.
+// Whether so many bytes are just so many rows. Rows times clocks can be past every number.
 fn are_rows(bytes: usize, row: usize, clocks: usize) -> bool
     ensures { result ≡ eqb bytes (row * clocks) }
 {
-    if row == 0 {
-        return bytes == 0;
+    match row.checked_mul(clocks) {
+        Some(all) => bytes == all,
+        None => false,
     }
-    if bytes % row == 0 {
-        return bytes / row == clocks;
-    }
-    false
 }
 
 // Whether the inputs are so many rows of fitting words. The words that are loaded are of no use: a work area.
-fn rows_fit(
-    file: &[u8],
-    net: &[u16],
-    members: &[u16],
-    inputs: &[u8],
-    clocks: usize,
-    words: &mut [u16],
-) -> bool
-    requires circuit { Circuit file.now net.now }
-    requires asked { let N = net_of file.now net.now in WellFormed N × (size N ≤ length words.old) × (members.now ≡ row_members Row.Inputs N) }
-    ensures { let N = net_of file.now net.now in result ≡ fitting_rows clocks (row_widths Row.Inputs N) inputs.now }
+fn rows_fit(net: &Netlist, members: &[u16], inputs: &[u8], clocks: usize, words: &mut [u16]) -> bool
+    requires formed { WellFormed net.now.net }
+    requires words { size net.now.net ≤ length words.old }
+    requires members { members.now ≡ row_members Row.Inputs net.now.net }
+    ensures { result ≡ fitting_rows clocks (row_widths Row.Inputs net.now.net) inputs.now }
 {
     let row = 2 * members.len();
     if !are_rows(inputs.len(), row, clocks) {
         return false;
     }
     let mut at: usize = 0;
-    let mut i: usize = 0;
-    while i < clocks {
+    for _i in 0..clocks {
         let end = at + row;
-        if !load_row(file, net, Row::Inputs, &inputs[at..end], members, words) {
+        if !load_row(net, Row::Inputs, &inputs[at..end], members, words) {
             return false;
         }
         at = end;
-        i = i + 1;
     }
     true
 }
 
 // 15, then 16, over the whole list. It only looks.
-fn list_verdict(
-    file: &[u8],
-    net: &[u16],
+fn check_list(
+    net: &Netlist,
     state: &[u8],
     inputs: &[u8],
     outputs: &[u8],
     clocks: usize,
-) -> Verdict
-    requires circuit { Circuit file.now net.now }
-    requires asked { let N = net_of file.now net.now in WellFormed N }
-    ensures { let N = net_of file.now net.now in result ≡ list_verdict N state.now inputs.now outputs.now clocks }
+) -> Result<(), Refusal>
+    requires { WellFormed net.now.net }
+    ensures { said result ≡ list_verdict net.now.net state.now inputs.now outputs.now clocks }
 {
+    net.bounds();
     let mut words = [0u16; 1024];
     let mut members = [0u16; 1024];
-    let k = row_members(file, net, Row::Inputs, &mut members);
-    if !rows_fit(file, net, &members[..k], inputs, clocks, &mut words) {
-        return Verdict::Refuses(15, 65535);
+    let k = row_members(net, Row::Inputs, &mut members);
+    if !rows_fit(net, &members[..k], inputs, clocks, &mut words) {
+        return Err(Refusal::Words);
     }
-    let m = row_members(file, net, Row::Outputs, &mut members);
+    let m = row_members(net, Row::Outputs, &mut members);
     if !are_rows(outputs.len(), 2 * m, clocks) {
-        return Verdict::Refuses(15, 65535);
+        return Err(Refusal::Words);
     }
-    let h = row_members(file, net, Row::State, &mut members);
-    if !load_row(file, net, Row::State, state, &members[..h], &mut words) {
-        return Verdict::Refuses(16, 65535);
+    let h = row_members(net, Row::State, &mut members);
+    if !load_row(net, Row::State, state, &members[..h], &mut words) {
+        return Err(Refusal::State);
     }
-    Verdict::Fine
+    Ok(())
 }
 
 // ---- the clocks
 
 // Clock follows clock, each with its row of the inputs and its row of the outputs.
 fn step_clocks(
-    file: &[u8],
-    net: &[u16],
+    net: &Netlist,
     schedule: &[u16],
     sizes: Sizes,
     inputs: &[u8],
@@ -114,23 +102,24 @@ fn step_clocks(
     outputs: &mut [u8],
     clocks: usize,
 )
-    requires circuit { Circuit file.now net.now }
-    requires asked { let N = net_of file.now net.now in WellFormed N × Scheduled N schedule.now sizes × (3072 ≤ length words.old)
-        × (fitting_rows clocks (input_widths N) inputs.now ≡ true) × (room_for_rows clocks (output_widths N) outputs.old ≡ true)
-        × (fitting (state_widths N) (state_in sizes words.old) ≡ true) }
-    ensures { let N = net_of file.now net.now in (outputs.new ≡ concat_map (shown_at N (state_in sizes words.old) inputs.now) (below clocks))
-        × (state_in sizes words.new ≡ states_from N (state_in sizes words.old) (row_words N inputs.now) clocks) }
+    requires formed { WellFormed net.now.net }
+    requires scheduled { Scheduled net.now.net schedule.now sizes }
+    requires words { 3072 ≤ length words.old }
+    requires rows { fitting_rows clocks (input_widths net.now.net) inputs.now ≡ true }
+    requires room { room_for_rows clocks (output_widths net.now.net) outputs.old ≡ true }
+    requires state { fitting (state_widths net.now.net) (state_in sizes words.old) ≡ true }
+    ensures outputs { outputs.new ≡ concat_map (shown_at net.now.net (state_in sizes words.old) inputs.now) (below clocks) }
+    ensures state { let N = net.now.net in state_in sizes words.new ≡ states_from N (state_in sizes words.old) (row_words N inputs.now) clocks }
 {
     let in_row = 2 * sizes.inputs;
     let out_row = 2 * sizes.outputs;
+    // No chunks of the slices: a row may have no bytes.
     let mut from: usize = 0;
     let mut to: usize = 0;
-    let mut i: usize = 0;
-    while i < clocks {
+    for _i in 0..clocks {
         let from_end = from + in_row;
         let to_end = to + out_row;
         clock(
-            file,
             net,
             schedule,
             sizes,
@@ -140,73 +129,57 @@ fn step_clocks(
         );
         from = from_end;
         to = to_end;
-        i = i + 1;
     }
 }
 
 // Writes the state back.
 fn store_state(words: &[u16], sizes: Sizes, state: &mut [u8])
-    requires { (sizes.inputs + sizes.held ≤ length words.now) × (length state.old ≡ 2 * sizes.held) }
+    requires words { sizes.inputs + sizes.held ≤ length words.now }
+    requires room { length state.old ≡ 2 * sizes.held }
     ensures { state.new ≡ bytes_of (state_in sizes words.now) }
 {
     let from = sizes.inputs;
     let held = sizes.held;
-    let mut j: usize = 0;
-    while j < held {
+    for j in 0..held {
         put_word(state, 2 * j, words[from + j]);
-        j = j + 1;
     }
 }
 
 // All clocks, over a schedule of the circuit.
-fn run_clocks(
-    file: &[u8],
-    net: &[u16],
-    state: &mut [u8],
-    inputs: &[u8],
-    outputs: &mut [u8],
-    clocks: usize,
-)
-    requires circuit { Circuit file.now net.now }
-    requires asked { let N = net_of file.now net.now in Asked N (order_of net.now) state.old inputs.now outputs.old clocks }
-    ensures { let N = net_of file.now net.now in (state.new ≡ bytes_of (states_from N (words_in state.old) (row_words N inputs.now) clocks))
-        × (outputs.new ≡ concat_map (shown_at N (words_in state.old) inputs.now) (below clocks)) }
+fn run_clocks(net: &Netlist, state: &mut [u8], inputs: &[u8], outputs: &mut [u8], clocks: usize)
+    requires { Asked net.now.net net.now.order state.old inputs.now outputs.old clocks }
+    ensures state { let N = net.now.net in state.new ≡ bytes_of (states_from N (words_in state.old) (row_words N inputs.now) clocks) }
+    ensures outputs { outputs.new ≡ concat_map (shown_at net.now.net (words_in state.old) inputs.now) (below clocks) }
 {
     let mut schedule = [0u16; SCHEDULE];
-    let sizes = lay_out(file, net, &mut schedule);
+    let sizes = lay_out(net, &mut schedule);
     let mut words = [0u16; WORDS];
     put_row(state, sizes.inputs, &mut words);
-    step_clocks(
-        file, net, &schedule, sizes, inputs, &mut words, outputs, clocks,
-    );
+    step_clocks(net, &schedule, sizes, inputs, &mut words, outputs, clocks);
     store_state(&words, sizes, state);
 }
 
 // ---- the service
 
-// A list of runs over an opened file. Its nodes are put into an order in which equal operations stand together, since they are gone through many times.
+// A list of runs over an opened file; gives the length of the outputs. Its nodes are put into an order in which equal operations stand together, since they are gone
+// through many times.
 fn list_opened(
-    file: &[u8],
-    net: &mut [u16],
+    draft: &mut Draft,
     state: &mut [u8],
     inputs: &[u8],
     outputs: &mut [u8],
     clocks: usize,
-) -> Answer
-    requires circuit { Circuit file.now net.old }
-    requires asked { let N = net_of file.now net.old in WellFormed N × Inside N }
-    ensures { let N = net_of file.now net.old in (result ≡ (list_net N state.old inputs.now outputs.old clocks).answer)
-        × (state.new ≡ (list_net N state.old inputs.now outputs.old clocks).state)
-        × (outputs.new ≡ (list_net N state.old inputs.now outputs.old clocks).outputs) }
+) -> Result<usize, Refusal>
+    requires formed { WellFormed draft.old.net }
+    requires inside { Inside draft.old.net }
+    ensures answer { answered result ≡ (list_net draft.old.net state.old inputs.now outputs.old clocks).answer }
+    ensures state { state.new ≡ (list_net draft.old.net state.old inputs.now outputs.old clocks).state }
+    ensures outputs { outputs.new ≡ (list_net draft.old.net state.old inputs.now outputs.old clocks).outputs }
 {
-    match list_verdict(file, net, state, inputs, outputs, clocks) {
-        Verdict::Refuses(number, place) => Answer::Refused(number, place),
-        Verdict::Fine => {
-            group_nodes(file, net);
-            run_clocks(file, net, state, inputs, outputs, clocks);
-            Answer::Accepted(outputs.len())
-        }
-    }
+    check_list(&draft.shown(), state, inputs, outputs, clocks)?;
+    group_nodes(draft);
+    run_clocks(&draft.shown(), state, inputs, outputs, clocks);
+    Ok(outputs.len())
 }
 
 // So many runs, each with its row of the inputs and its row of the outputs; all of them, or a refusal that changes nothing.
@@ -217,13 +190,13 @@ pub fn run_list(
     outputs: &mut [u8],
     clocks: usize,
 ) -> Answer
-    ensures { (result ≡ (run_list_file file.now state.old inputs.now outputs.old clocks).answer)
-        × (state.new ≡ (run_list_file file.now state.old inputs.now outputs.old clocks).state)
-        × (outputs.new ≡ (run_list_file file.now state.old inputs.now outputs.old clocks).outputs) }
+    ensures answer { result ≡ (run_list_file file.now state.old inputs.now outputs.old clocks).answer }
+    ensures state { state.new ≡ (run_list_file file.now state.old inputs.now outputs.old clocks).state }
+    ensures outputs { outputs.new ≡ (run_list_file file.now state.old inputs.now outputs.old clocks).outputs }
 {
     let mut net = [0u16; circuit::WORDS];
     match open_file(file, &mut net) {
-        Verdict::Refuses(number, place) => Answer::Refused(number, place),
-        Verdict::Fine => list_opened(file, &mut net, state, inputs, outputs, clocks),
+        Ok(mut draft) => Answer::from(list_opened(&mut draft, state, inputs, outputs, clocks)),
+        Err(r) => Answer::from(r),
     }
 }

@@ -1,64 +1,34 @@
--- How long the field of a node is, by its code and how many sources it has. Assumes nothing.
-use Rattle.std.specs.Prelude.{◌≡◌, refl, List, ℕ, ◌+◌, ◌*◌, ◌<◌, ◌≤◌, eqb, ltb}
+-- How long the field of a node is, by what it holds besides its sources and how many sources it has. Assumes nothing.
+use Rattle.std.specs.Prelude.{◌≡◌, List, ℕ, ◌+◌, ◌*◌, ◌<◌, ◌≤◌}
 use Rattle.std.proofs.Math.Path.{ap}
-use Rattle.std.proofs.Common.{arith}
+use Rattle.std.proofs.Common.{arith, subst, sym}
 use Rattle.std.proofs.Math.ListN.{length}
-use Rattle.lists.specs.Paths.{pick}
-use Rattle.words.specs.declared.Op.{Op}
-use Rattle.words.specs.declared.Op.TheVariants.{Constant, Not, And, Or, Xor, Add, Subtract, Equal, Less, Choose, Part, Join}
 use Rattle.netlist.specs.declared.Node.{Node}
 use Rattle.netlist.specs.declared.Element.{Element}
-use Rattle.netlist.specs.declared.Element.TheVariants.{Input, Output, Register, Async, Clocked, Gate}
 use Rattle.netlist.specs.Net.{size, node_at, element_at, operands}
+use Rattle.netlist.specs.NodeField.{before_sources, after_sources}
 use Rattle.netlist.specs.File.{node_bytes}
-use Rattle.codec.proofs.ContentLength.{content_length, content_short, length-content}
-use Rattle.circuit.specs.Code.{code_of}
+use Rattle.codec.proofs.ContentLength.{content-sum, content_short, length-content}
 use Rattle.circuit.specs.Circuit.{row_node, net_of}
+use Rattle.circuit.specs.Shown.{Shown, shown_by}
 use Rattle.circuit.proofs.CircuitLaws.{node_of}
 
 -- what a node holds besides kind, width and sources: a reset word, a table, both, an operation with a word or a lowest bit
-abbrev pub own_length : ℕ → ℕ
-own_length c =
-    pick (eqb c 2) 2
-    (pick (eqb c 3) 1
-    (pick (eqb c 4) 3
-    (pick (eqb c 8) 3
-    (pick (eqb c 18) 2
-    (pick (ltb c 2) 0 1)))))
+abbrev pub own_length : Element → ℕ
+own_length e = length (before_sources e) + length (after_sources e)
 
-by_op : (o : Op) → content_length (Gate o) ≡ 2 + own_length (code_of (Gate o)) + 2 * operands (Gate o)
-unfolding pick
-by_op (Constant v) = refl
-by_op Not = refl
-by_op And = refl
-by_op Or = refl
-by_op Xor = refl
-by_op Add = refl
-by_op Subtract = refl
-by_op Equal = refl
-by_op Less = refl
-by_op Choose = refl
-by_op (Part b) = refl
-by_op Join = refl
-
-by_element : (e : Element) → content_length e ≡ 2 + own_length (code_of e) + 2 * operands e
-unfolding pick
-by_element Input = refl
-by_element Output = refl
-by_element (Register r) = refl
-by_element (Async m) = refl
-by_element (Clocked m r) = refl
-by_element (Gate o) = by_op o
-
-module _ (s l : List ℕ) (v : ℕ) (h : v < size (net_of s l)) where
-  three : length (node_at (net_of s l) v).sources ≡ 3
+-- an opened netlist gives each node three sources
+module _ (s l : List ℕ) (h : Shown) (e : shown_by s l ≡ h) (v : ℕ) (low : v < size h.net) where
+  three : length (node_at h.net v).sources ≡ 3
   unfolding row_node
-  three = ap (λ (x : Node). length x.sources) (node_of s l v h)
+  three =
+      let here : v < size (net_of s l) = subst (λ (g : Shown). v < size g.net) (sym e) low in
+      subst (λ (g : Shown). length (node_at g.net v).sources ≡ 3) e (ap (λ (x : Node). length x.sources) (node_of s l v here))
 
-  pub node_length : {c n : ℕ} → c ≡ code_of (element_at (net_of s l) v) → n ≡ operands (element_at (net_of s l) v)
-      → (5 + own_length c + 2 * n ≡ length (node_bytes (node_at (net_of s l) v))) × (5 + own_length c + 2 * n ≤ 12)
+  pub node_length : {own n : ℕ} → own ≡ own_length (element_at h.net v) → n ≡ operands (element_at h.net v)
+      → (5 + own + 2 * n ≡ length (node_bytes (node_at h.net v))) × (5 + own + 2 * n ≤ 12)
   unfolding element_at
-  node_length {c} {n} e f =
-      let x = node_at (net_of s l) v in
-      let o = ap own_length e in
-      (omega (arith, by_element x.element, length-content x three, o, f), omega (arith, by_element x.element, content_short x.element, o, f))
+  node_length p q =
+      let x = node_at h.net v in
+      let sum = content-sum x.element in
+      (omega (arith, length-content x three, sum, p, q), omega (arith, content_short x.element, sum, p, q))

@@ -7,12 +7,11 @@ mod listing;
 ghost use Rattle.std.specs.Prelude.{◌≡◌, ◌+◌, ◌*◌, ◌<◌, ◌≤◌, length};
 ghost use Rattle.netlist.specs.Net.{in_clock};
 ghost use Rattle.netlist.specs.Checks.{WellFormed};
-ghost use Rattle.circuit.specs.Circuit.{order_of, net_of, Circuit};
 ghost use Rattle.circuit.specs.Order.{Complete};
 ghost use Rattle.evaluate.specs.Clock.{Inside};
 ghost use Rattle.schedule.specs.Lines.{schedule_words, part, Scheduled};
 
-use circuit::wide;
+use circuit::Netlist;
 use lines::{put_lines, put_ports};
 use listing::{first_places, list_nodes};
 
@@ -20,6 +19,9 @@ use listing::{first_places, list_nodes};
 pub const SCHEDULE: usize = 17408;
 
 pub const OUTPUTS: usize = 16384;
+
+// The words of a list of the lines' nodes and the output ports.
+const LISTED: usize = 3072;
 
 // The words of a line.
 pub const CODE: usize = 0;
@@ -46,22 +48,25 @@ pub struct Sizes {
 // Word j of line i.
 pub fn part_of(schedule: &[u16], i: usize, j: usize) -> usize
     requires { 8 * i + j < length schedule.now }
-    ensures { (result ≡ part schedule.now i j) × (result ≤ 65535) }
+    ensures part { result ≡ part schedule.now i j }
+    ensures word { result ≤ 65535 }
 {
-    wide(schedule[8 * i + j])
+    schedule[8 * i + j] as usize
 }
 
 // Lays the work of a clock out: once for a netlist, however many clocks it is stepped.
-pub fn lay_out(file: &[u8], net: &[u16], schedule: &mut [u16]) -> Sizes
-    requires circuit { Circuit file.now net.now }
-    requires asked { let N = net_of file.now net.now in WellFormed N × Inside N × Complete in_clock N (order_of net.now) × (schedule_words ≤ length schedule.old) }
-    ensures { let N = net_of file.now net.now in Scheduled N schedule.new result }
+pub fn lay_out(net: &Netlist, schedule: &mut [u16]) -> Sizes
+    requires formed { WellFormed net.now.net }
+    requires inside { Inside net.now.net }
+    requires complete { Complete in_clock net.now.net net.now.order }
+    requires schedule { schedule_words ≤ length schedule.old }
+    ensures { Scheduled net.now.net schedule.new result }
 {
-    let mut nodes = [0u16; 3072];
+    let mut nodes = [0u16; LISTED];
     let mut places = [0u16; 1024];
-    let sizes = list_nodes(file, net, &mut nodes);
+    let sizes = list_nodes(net, &mut nodes);
     first_places(&nodes, sizes.lines, &mut places);
-    put_lines(file, net, &nodes, sizes.lines, &places, schedule);
-    put_ports(file, net, &nodes, sizes, &places, schedule);
+    put_lines(net, &nodes, sizes.lines, &places, schedule);
+    put_ports(net, &nodes, sizes, &places, schedule);
     sizes
 }

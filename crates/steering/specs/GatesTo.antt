@@ -6,6 +6,7 @@ use Rattle.retiming.specs.Rewrite.{Timing, Place, Entry, Reg, entry_places, plac
 use Rattle.retiming.specs.Layout.{no_place}
 use Rattle.retiming.specs.Gates.{Spot, picks_on, chain_spots, spot_number, picked}
 use Rattle.retiming.specs.GatesLayout.{no_spot}
+use Rattle.plan.specs.Areas.{owners_in, words_in, late_in, sources_in}
 use Rattle.plan.specs.Entries.{Stored}
 use Rattle.plan.specs.Registers.{entry_count, entry_at, row_before, wires_before, HeadHeld, RegHeld}
 use Rattle.steering.specs.Gated.{SpotKept}
@@ -57,3 +58,10 @@ module _ (N : Net) (f : Timing) where
     pub record AllGated (total : ℕ) : Type 0 where
       pub exact : total ≤ 1024 → GatesTo (3 * entry_count N f) total
       pub over : 1024 < total → 1024 < gates_from + length (picks_before (3 * entry_count N f))
+
+  -- in the plan's area
+  abbrev pub GatesIn : List ℕ → ℕ → ℕ → Type 0
+  GatesIn plan m total = GatesTo (owners_in plan) (words_in plan) (late_in plan) (sources_in plan) m total
+
+  abbrev pub AllGatedIn : List ℕ → ℕ → Type 0
+  AllGatedIn plan total = AllGated (owners_in plan) (words_in plan) (late_in plan) (sources_in plan) total

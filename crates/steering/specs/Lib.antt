@@ -6,3 +6,4 @@ pub mod GatesLaws
 pub mod ChainLaws
 pub mod GatesArea
 pub mod SteeringLaws
+pub mod Gating

@@ -5,7 +5,8 @@ use Rattle.std.proofs.Math.Seq.{set_out}
 use Rattle.lists.proofs.BelowLaws.{lt-suc_split}
 use Rattle.lists.proofs.Sections.{section-length}
 use Rattle.plan.specs.Areas.{owners_in, words_in, late_in, sources_in}
-use Rattle.plan.specs.RegistersPut.{RegisterPut, source-put}
+use Rattle.plan.specs.Registers.{RegisterPut}
+use Rattle.plan.specs.RegistersPut.{source-put}
 use Rattle.steering.specs.GatesTo.{gate_after, PutsPairs}
 
 -- two places next to each other are put
@@ -113,13 +114,13 @@ module _ {s head clock steer count start : ℕ} {owners late sources : List ℕ}
 -- two registers are put where the constant and its gate stand, and then what else the gate reads
 module _ (l m n : List ℕ) (r s clock steer : ℕ) (long : length l ≡ 7168) (p : RegisterPut l m r s clock 0) (q : RegisterPut m n (r + 1) s 65535 steer) where
   owners_two : owners_in n ≡ two_put_of (owners_in l) r s s
-  owners_two = q.0 ∙ ap (λ (y : List ℕ). set y (r + 1) s) p.0
+  owners_two = q.owners ∙ ap (λ (y : List ℕ). set y (r + 1) s) p.owners
 
   late_two : late_in n ≡ two_put_of (late_in l) r clock 65535
-  late_two = q.1 ∙ ap (λ (y : List ℕ). set y (r + 1) 65535) p.1
+  late_two = q.late ∙ ap (λ (y : List ℕ). set y (r + 1) 65535) p.late
 
   sources_two : sources_in n ≡ set (set (sources_in l) (3 * r) 0) (3 * (r + 1)) steer
-  sources_two = q.2 ∙ ap (λ (y : List ℕ). set y (3 * (r + 1)) steer) p.2
+  sources_two = q.sources ∙ ap (λ (y : List ℕ). set y (3 * (r + 1)) steer) p.sources
 
   abbrev PairPut : List ℕ → ℕ → Type 0
   PairPut k next = (owners_in k ≡ two_put_of (owners_in l) r s s) × (late_in k ≡ two_put_of (late_in l) r clock 65535) × (sources_in k ≡ gate_put (sources_in l) r steer next) × (words_in k ≡ words_in l)
@@ -131,7 +132,7 @@ module _ (l m n : List ℕ) (r s clock steer : ℕ) (long : length l ≡ 7168) (
         z.1 ∙ y.1 ∙ owners_two,
         z.3 ∙ y.3 ∙ late_two,
         z.0 ∙ ap (λ (w : List ℕ). set w (3 * (r + 1) + 2) r) (y.0 ∙ ap (λ (w : List ℕ). set w (3 * (r + 1) + 1) next) sources_two),
-        z.2 ∙ y.2 ∙ q.3 ∙ p.3,
+        z.2 ∙ y.2 ∙ q.words ∙ p.words,
       )
 
   -- there is no room for the gate
@@ -143,7 +144,7 @@ module _ (l m n : List ℕ) (r s clock steer : ℕ) (long : length l ≡ 7168) (
         owners_two,
         late_two,
         sources_two ∙ sym (ap (λ (w : List ℕ). set w (3 * (r + 1) + 2) r) (set_out two (3 * (r + 1) + 1) next (omega arith)) ∙ set_out two (3 * (r + 1) + 2) r (omega arith)),
-        q.3 ∙ p.3,
+        q.words ∙ p.words,
       )
 
 -- one pair more

@@ -4,17 +4,18 @@
 mod chain;
 mod pairs;
 
-ghost use Rattle.std.specs.Prelude.{◌≡◌, ◌+◌, ◌≤◌, ◌<◌, length};
+ghost use Rattle.std.specs.Prelude.{◌≡◌, ◌+◌, ◌≤◌, ◌<◌};
 ghost use Rattle.retiming.specs.Modes.{mode_timing};
 ghost use Rattle.wiring.specs.Wiring.{Timed};
 ghost use Rattle.plan.specs.Plan.{PlanLaid};
 ghost use Rattle.steering.specs.Gated.{Steering};
-ghost use Rattle.circuit.specs.Circuit.{net_of, Circuit};
 
 use chain::chain_length;
+use circuit::Netlist;
 use pairs::gate_entries;
-use plan::Plan;
+use plan::{PLAN, Plan};
 use retiming::Mode;
+use wires::TIMING;
 
 // A plan with its gates: the mode, how many nodes come before the registers, how many before the gates, the registers of the chain (none where there are no gates),
 // and how many nodes there are.
@@ -27,57 +28,61 @@ pub struct Steered {
     pub total: usize,
 }
 
+// What the gates are added to: a netlist, its timing, and its plan as yet without gates.
+#[derive(Clone, Copy)]
+struct Gating<'a> {
+    net: &'a Netlist<'a, 'a>,
+    timing: &'a [u16; TIMING],
+    made: Steered,
+}
+
 // A chain has a constant that fills it.
 fn chain_nodes(chain: usize) -> usize
     requires { chain ≤ 2051 }
-    ensures { (0 < chain → result ≡ chain + 1) × (chain ≡ 0 → result ≡ 0) × (result ≤ 2052) }
+    ensures some { 0 < chain → result ≡ chain + 1 }
+    ensures none { chain ≡ 0 → result ≡ 0 }
+    ensures few { result ≤ 2052 }
 {
     if chain == 0 { 0 } else { chain + 1 }
 }
 
 // Adds the constant, the chain, and the gates with their constants. Where there are more than 1,024 nodes nothing is said of the area.
-pub fn add_gates(file: &[u8], net: &[u16], timing: &[u16], made: Plan, plan: &mut [u16]) -> Steered
-    requires circuit { Circuit file.now net.now }
-    requires asked { let N = net_of file.now net.now in Timed N (mode_timing made.mode N) timing.now × (length timing.now ≡ 3072) × (length plan.old ≡ 7168)
-        × PlanLaid N (mode_timing made.mode N) plan.old made.entries made.total }
-    ensures { let N = net_of file.now net.now in Steering N (mode_timing made.mode N) plan.new result.entries result.wired result.chain result.total × (result.mode ≡ made.mode) }
+pub fn add_gates(
+    net: &Netlist,
+    timing: &[u16; TIMING],
+    made: Plan,
+    plan: &mut [u16; PLAN],
+) -> Steered
+    requires timed { let N = net.now.net in Timed N (mode_timing made.mode N) timing.now }
+    requires laid { let N = net.now.net in PlanLaid N (mode_timing made.mode N) plan.old made.entries made.total }
+    ensures steering { let N = net.now.net in
+        Steering N (mode_timing made.mode N) plan.new result.entries result.wired result.chain result.total }
+    ensures mode { result.mode ≡ made.mode }
 {
-    let mode = made.mode;
-    let entries = made.entries;
-    let wired = made.total;
-    if 1024 < wired {
-        return Steered {
-            mode,
-            entries,
-            wired,
-            chain: 0,
-            total: wired,
-        };
+    let ungated = Steered {
+        mode: made.mode,
+        entries: made.entries,
+        wired: made.total,
+        chain: 0,
+        total: made.total,
+    };
+    if 1024 < made.total {
+        return ungated;
     }
-    match mode {
-        Mode::Plain => Steered {
-            mode,
-            entries,
-            wired,
-            chain: 0,
-            total: wired,
-        },
+    match made.mode {
+        Mode::Plain => ungated,
         Mode::Late => {
-            let chain = chain_length(file, net, mode, timing);
-            let start = Steered {
-                mode,
-                entries,
-                wired,
-                chain,
-                total: wired + chain_nodes(chain),
+            let chain = chain_length(net, made.mode, timing);
+            let from = Gating {
+                net,
+                timing,
+                made: ungated,
             };
-            let total = gate_entries(file, net, timing, start, plan);
+            let total = gate_entries(&from, made.total + chain_nodes(chain), plan);
             Steered {
-                mode,
-                entries,
-                wired,
                 chain,
                 total,
+                ..ungated
             }
         }
     }

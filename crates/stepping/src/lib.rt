@@ -2,23 +2,27 @@
 #![tactic(auto)]
 
 pub mod clock;
-mod operations;
 
 ghost use Rattle.std.specs.Prelude.{◌≡◌, ℕ, ◌+◌, ◌<◌, ◌≤◌, length, get_or};
 ghost use Rattle.netlist.specs.Checks.{WellFormed};
 ghost use Rattle.schedule.specs.Lines.{schedule_words, code_on, place_on, Scheduled};
 ghost use Rattle.stepping.specs.Step.{line_word, FitTo, Stepped, gate_on, GateAsks, chosen_on, OnLine, OnRun};
-ghost use Rattle.circuit.specs.Circuit.{net_of, Circuit};
 
-use circuit::{table_word, wide};
+use circuit::Netlist;
+use circuit::codes::{
+    ADD, AND, ASYNC_ROM, CHOOSE, CONSTANT, EQUAL, GATE, JOIN, LESS, NOT, OR, PART, SUBTRACT, XOR,
+};
 use gates::gate;
-use operations::step_run;
-use schedule::{HELD, PLACES, RUN_END, Sizes, WIDTH, part_of};
+use nodes::plain_op;
+use schedule::{CODE, HELD, PLACES, RUN_END, Sizes, WIDTH, part_of};
 use words::Op;
 
 // The word of an operation on line i.
 fn gate_word(schedule: &[u16], op: Op, i: usize, words: &[u16]) -> u16
-    requires { (schedule_words ≤ length schedule.now) × (i < 2048) × (2048 ≤ length words.now) × GateAsks schedule.now op i words.now }
+    requires schedule { schedule_words ≤ length schedule.now }
+    requires line { i < 2048 }
+    requires words { 2048 ≤ length words.now }
+    requires asks { GateAsks schedule.now op i words.now }
     ensures { result ≡ gate_on schedule.now op i words.now }
 {
     let first = words[part_of(schedule, i, PLACES)];
@@ -29,98 +33,108 @@ fn gate_word(schedule: &[u16], op: Op, i: usize, words: &[u16]) -> u16
 }
 
 // The word of an asynchronous ROM on line i.
-fn rom_word(file: &[u8], net: &[u16], schedule: &[u16], i: usize, words: &[u16]) -> u16
-    requires circuit { Circuit file.now net.now }
-    requires asked { let N = net_of file.now net.now in WellFormed N × OnLine N schedule.now words.now i × (code_on schedule.now i ≡ 3) }
-    ensures { let N = net_of file.now net.now in result ≡ line_word N schedule.now words.now i }
+fn rom_word(net: &Netlist, schedule: &[u16], i: usize, words: &[u16]) -> u16
+    requires formed { WellFormed net.now.net }
+    requires line { OnLine net.now.net schedule.now words.now i }
+    requires rom { code_on schedule.now i ≡ 3 }
+    ensures { result ≡ line_word net.now.net schedule.now words.now i }
 {
     let address = words[part_of(schedule, i, PLACES)];
-    table_word(file, net, part_of(schedule, i, HELD), wide(address))
+    net.table_word(part_of(schedule, i, HELD), address as usize)
 }
 
 // The word of a choose gate on line i: the selector's word tells which of the two other places is read. Selectors follow no pattern, so there is no branch on it.
 fn choose_word(schedule: &[u16], i: usize, words: &[u16]) -> u16
-    requires { (schedule_words ≤ length schedule.now) × (i < 2048) × (2048 ≤ length words.now) × ((p : ℕ) → p < 3 → place_on schedule.now i p < 2048)
-        × (get_or words.now (place_on schedule.now i 0) 0 < 2) }
+    requires schedule { schedule_words ≤ length schedule.now }
+    requires line { i < 2048 }
+    requires words { 2048 ≤ length words.now }
+    requires places { (p : ℕ) → p < 3 → place_on schedule.now i p < 2048 }
+    requires selector { get_or words.now (place_on schedule.now i 0) 0 < 2 }
     ensures { result ≡ chosen_on schedule.now i words.now }
 {
-    let selector = wide(words[part_of(schedule, i, PLACES)]);
+    let selector = words[part_of(schedule, i, PLACES)] as usize;
     words[part_of(schedule, i, PLACES + 2 - selector)]
 }
 
 // The word of line i, whose code is known.
-fn line_word(
-    file: &[u8],
-    net: &[u16],
-    schedule: &[u16],
-    code: usize,
-    i: usize,
-    words: &[u16],
-) -> u16
-    requires circuit { Circuit file.now net.now }
-    requires asked { let N = net_of file.now net.now in WellFormed N × OnLine N schedule.now words.now i × (code ≡ code_on schedule.now i) }
-    ensures { let N = net_of file.now net.now in result ≡ line_word N schedule.now words.now i }
+fn line_word(net: &Netlist, schedule: &[u16], code: usize, i: usize, words: &[u16]) -> u16
+    requires formed { WellFormed net.now.net }
+    requires line { OnLine net.now.net schedule.now words.now i }
+    requires code { code ≡ code_on schedule.now i }
+    ensures { result ≡ line_word net.now.net schedule.now words.now i }
 {
     match code {
-        3 => rom_word(file, net, schedule, i, words),
-        8 => gate_word(
-            schedule,
-            Op::Constant(part_of(schedule, i, HELD) as u16),
-            i,
-            words,
-        ),
-        9 => gate_word(schedule, Op::Not, i, words),
-        10 => gate_word(schedule, Op::And, i, words),
-        11 => gate_word(schedule, Op::Or, i, words),
-        12 => gate_word(schedule, Op::Xor, i, words),
-        13 => gate_word(schedule, Op::Add, i, words),
-        14 => gate_word(schedule, Op::Subtract, i, words),
-        15 => gate_word(schedule, Op::Equal, i, words),
-        16 => gate_word(schedule, Op::Less, i, words),
-        17 => choose_word(schedule, i, words),
-        18 => gate_word(
-            schedule,
-            Op::Part(part_of(schedule, i, HELD) as u8),
-            i,
-            words,
-        ),
-        _ => gate_word(schedule, Op::Join, i, words),
+        ASYNC_ROM => rom_word(net, schedule, i, words),
+        CONSTANT => {
+            let value = part_of(schedule, i, HELD) as u16;
+            gate_word(schedule, Op::Constant(value), i, words)
+        }
+        CHOOSE => choose_word(schedule, i, words),
+        PART => {
+            let low = part_of(schedule, i, HELD) as u8;
+            gate_word(schedule, Op::Part(low), i, words)
+        }
+        _ => {
+            let op = plain_op((code - GATE) as u8);
+            gate_word(schedule, op, i, words)
+        }
     }
 }
 
-// The lines from one place up to another, all of one code.
-fn run_of(
-    file: &[u8],
-    net: &[u16],
+// The lines from one place up to another, all of code C. It is a const parameter, so that the compiler makes a loop for each code that does nothing else.
+fn run_of<const C: usize>(
+    net: &Netlist,
     schedule: &[u16],
-    code: usize,
     from: usize,
     to: usize,
     words: &mut [u16],
 )
-    requires circuit { Circuit file.now net.now }
-    requires asked { let N = net_of file.now net.now in WellFormed N × OnRun N schedule.now words.old code from to }
-    ensures { let N = net_of file.now net.now in Stepped N schedule.now from to words.old words.new }
+    requires formed { WellFormed net.now.net }
+    requires run { OnRun net.now.net schedule.now words.old C from to }
+    ensures { Stepped net.now.net schedule.now from to words.old words.new }
 {
-    let mut i = from;
-    while i < to {
-        words[i] = line_word(file, net, schedule, code, i, words);
-        i = i + 1;
+    for i in from..to {
+        words[i] = line_word(net, schedule, C, i, words);
+    }
+}
+
+// The lines from one place up to another, all of the first one's code.
+fn step_run(net: &Netlist, schedule: &[u16], from: usize, to: usize, words: &mut [u16])
+    requires formed { WellFormed net.now.net }
+    requires some { from < to }
+    requires run { OnRun net.now.net schedule.now words.old (code_on schedule.now from) from to }
+    ensures { Stepped net.now.net schedule.now from to words.old words.new }
+{
+    match part_of(schedule, from, CODE) {
+        ASYNC_ROM => run_of::<ASYNC_ROM>(net, schedule, from, to, words),
+        CONSTANT => run_of::<CONSTANT>(net, schedule, from, to, words),
+        NOT => run_of::<NOT>(net, schedule, from, to, words),
+        AND => run_of::<AND>(net, schedule, from, to, words),
+        OR => run_of::<OR>(net, schedule, from, to, words),
+        XOR => run_of::<XOR>(net, schedule, from, to, words),
+        ADD => run_of::<ADD>(net, schedule, from, to, words),
+        SUBTRACT => run_of::<SUBTRACT>(net, schedule, from, to, words),
+        EQUAL => run_of::<EQUAL>(net, schedule, from, to, words),
+        LESS => run_of::<LESS>(net, schedule, from, to, words),
+        CHOOSE => run_of::<CHOOSE>(net, schedule, from, to, words),
+        PART => run_of::<PART>(net, schedule, from, to, words),
+        _ => run_of::<JOIN>(net, schedule, from, to, words),
     }
 }
 
 // All lines behind those that are loaded, run by run.
-pub fn step_lines(file: &[u8], net: &[u16], schedule: &[u16], sizes: Sizes, words: &mut [u16])
-    requires circuit { Circuit file.now net.now }
-    requires asked { let N = net_of file.now net.now in WellFormed N × Scheduled N schedule.now sizes × (2048 ≤ length words.old)
-        × FitTo N schedule.now words.old (sizes.inputs + sizes.held) }
-    ensures { let N = net_of file.now net.now in Stepped N schedule.now (sizes.inputs + sizes.held) sizes.lines words.old words.new }
+pub fn step_lines(net: &Netlist, schedule: &[u16], sizes: Sizes, words: &mut [u16])
+    requires formed { WellFormed net.now.net }
+    requires scheduled { Scheduled net.now.net schedule.now sizes }
+    requires words { 2048 ≤ length words.old }
+    requires fit { FitTo net.now.net schedule.now words.old (sizes.inputs + sizes.held) }
+    ensures { Stepped net.now.net schedule.now (sizes.inputs + sizes.held) sizes.lines words.old words.new }
 {
+    // A loop by hand: it jumps from run to run.
     let mut i = sizes.inputs + sizes.held;
-    let lines = sizes.lines;
-    while i < lines {
+    while i < sizes.lines {
         let end = part_of(schedule, i, RUN_END);
-        step_run(file, net, schedule, i, end, words);
+        step_run(net, schedule, i, end, words);
         i = end;
     }
 }

@@ -47,19 +47,19 @@ module _ (l : List ℕ) (u : ℕ) {n x : ℕ} (h : u < n) (few : n ≤ 1024) whe
   pub pass_at : x ≡ get_or l (2048 + u) 0 → x ≡ get_or (passes_in l) u 0
   pass_at e = e ∙ sym (section-read 2048 1024 l u (omega (arith, h, few)))
 
--- both words of node v are put into the timing area
-pub put_both : (l m k : List ℕ) (v x y : ℕ) → v < 1024 → length l ≡ 3072 → m ≡ set l (1024 + v) x → k ≡ set m (2048 + v) y
-    → Written (roots_in l) (passes_in l) (roots_in k) (passes_in k) v x y × (take 1024 k ≡ take 1024 l)
-put_both l m k v x y h e a b = (
-  record {
+-- both words of node v are put into the timing area; its leads stay
+module _ (l m k : List ℕ) (v x y : ℕ) (h : v < 1024) (n : length l ≡ 3072) (a : m ≡ set l (1024 + v) x) (b : k ≡ set m (2048 + v) y) where
+  pub both_put : Written (roots_in l) (passes_in l) (roots_in k) (passes_in k) v x y
+  both_put = record {
     roots_are = ap (λ (w : List ℕ). roots_in w) b ∙ section-after 1024 1024 m (2048 + v) y (omega arith) ∙ ap (λ (w : List ℕ). roots_in w) a ∙ section-put 1024 1024 l v x h;
     passes_are = ap (λ (w : List ℕ). passes_in w) b ∙ section-put 2048 1024 m v y h
         ∙ ap (λ (w : List ℕ). set (passes_in w) v y) a ∙ ap (λ (w : List ℕ). set w v y) (section_before 2048 1024 l (1024 + v) x (omega arith));
-    root_room = omega (arith, h, section-length 1024 1024 l (omega (arith, e)));
-    pass_room = omega (arith, h, section-length 2048 1024 l (omega (arith, e)));
-  },
-  ap (take 1024) b ∙ take-set-le 1024 m (2048 + v) y (omega arith) ∙ ap (take 1024) a ∙ take-set-le 1024 l (1024 + v) x (omega arith),
-)
+    root_room = omega (arith, h, section-length 1024 1024 l (omega (arith, n)));
+    pass_room = omega (arith, h, section-length 2048 1024 l (omega (arith, n)));
+  }
+
+  pub leads_stay : take 1024 k ≡ take 1024 l
+  leads_stay = ap (take 1024) b ∙ take-set-le 1024 m (2048 + v) y (omega arith) ∙ ap (take 1024) a ∙ take-set-le 1024 l (1024 + v) x (omega arith)
 
 module _ (N : Net) where
   -- from a register to its source
@@ -82,6 +82,14 @@ module _ (N : Net) where
     -- a node with the mark is a register
     pub back_waiting : Sourced N → Ringless N → size N ≤ 1024 → {s : ℕ} → get_or passes u 0 ≡ 65535 → s ≡ source N u 0 → Back N u s 1
     back_waiting sourced none few m e = back_one sourced none h (⊎_elim (λ a. absurd (omega (arith, a.through, passed_few N u))) (λ a. a.register) (t.each u h)) e
+
+  -- the same by the word of node u in the timing area
+  module _ (l : List ℕ) {u : ℕ} (t : HalfTraced N (roots_in l) (passes_in l) (size N)) (h : u < size N) (few : size N ≤ 1024) where
+    pub traced_at : (get_or l (2048 + u) 0 ≡ 65535 → ⊥) → Traced N (roots_in l) (passes_in l) u
+    traced_at d = traced_already t h (λ e. d (pass_at l u h few refl ∙ e))
+
+    pub back_at : Sourced N → Ringless N → {s : ℕ} → get_or l (2048 + u) 0 ≡ 65535 → s ≡ source N u 0 → Back N u s 1
+    back_at sourced none m e = back_waiting t h sourced none few (sym (pass_at l u h few refl) ∙ m) e
 
   pub half_less : {roots passes : List ℕ} {n m : ℕ} → HalfTraced N roots passes n → m ≤ n → HalfTraced N roots passes m
   half_less t l = record { each = λ s h. t.each s (omega arith) }
@@ -178,10 +186,10 @@ module _ (N : Net) where
         now : MoreTraced N more through more' through' u
         now = traced_more N w t.its_root t.its_passes
 
-    -- u does not wait
-    pub setting_done : (get_or through u 0 ≡ 65535 → ⊥) → MoreTraced N roots passes more through v
-    setting_done d = record {
-      here = ⊎_elim (λ e. subst (Traced N more through) e (traced_already N t.half t.inside d)) (λ a. a) t.begun;
+    -- u is traced already
+    pub setting_done : Traced N more through u → MoreTraced N roots passes more through v
+    setting_done last = record {
+      here = ⊎_elim (λ e. subst (Traced N more through) e last) (λ a. a) t.begun;
       still = t.still;
     }
 

@@ -6,10 +6,8 @@ ghost use Rattle.netlist.specs.Net.{size, Sourced};
 ghost use Rattle.retiming.specs.Rewrite.{root, passed};
 ghost use Rattle.wires.specs.Traced.{roots_in, passes_in, Ringless, HalfTraced, MoreTraced, AllTraced};
 ghost use Rattle.wires.specs.TracedLaws.{Written};
-ghost use Rattle.circuit.specs.Circuit.{net_of, Circuit};
 
-use areas::{read_at, write_at};
-use circuit::{node_count, register, source_of};
+use circuit::Netlist;
 
 // The timing area: the leads of the nodes, the roots of their wires, and the registers passed.
 pub const ROOTS: usize = 1024;
@@ -32,95 +30,101 @@ struct Wire {
 }
 
 // Writes the root and the passes of node v.
-fn put_wire(timing: &mut [u16], v: usize, root: u16, through: u16)
-    requires { (v < 1024) × (length timing.old ≡ 3072) }
-    ensures { Written (roots_in timing.old) (passes_in timing.old) (roots_in timing.new) (passes_in timing.new) v root through
-        × (take 1024 timing.new ≡ take 1024 timing.old) }
+fn put_wire(timing: &mut [u16; TIMING], v: usize, root: u16, through: u16)
+    requires { v < 1024 }
+    ensures written { Written (roots_in timing.old) (passes_in timing.old) (roots_in timing.new) (passes_in timing.new) v root through }
+    ensures leads { take 1024 timing.new ≡ take 1024 timing.old }
 {
-    write_at(timing, ROOTS + v, root);
-    write_at(timing, PASSES + v, through);
+    timing[ROOTS + v] = root;
+    timing[PASSES + v] = through;
 }
 
 // Every node is its own root with no register passed, but the registers wait. Without a branch.
-fn mark_all(file: &[u8], net: &[u16], timing: &mut [u16])
-    requires circuit { Circuit file.now net.now }
-    requires asked { length timing.old ≡ 3072 }
-    ensures { let N = net_of file.now net.now in HalfTraced N (roots_in timing.new) (passes_in timing.new) (size N)
-        × (take 1024 timing.new ≡ take 1024 timing.old) }
+fn mark_all(net: &Netlist, timing: &mut [u16; TIMING])
+    ensures half { let N = net.now.net in HalfTraced N (roots_in timing.new) (passes_in timing.new) (size N) }
+    ensures leads { take 1024 timing.new ≡ take 1024 timing.old }
 {
-    let n = node_count(file, net);
-    let mut v: usize = 0;
-    while v < n {
-        let waits = (65535 * register(file, net, v)) as u16;
+    for v in 0..net.node_count() {
+        let waits = WAITS * u16::from(net.is_register(v));
         put_wire(timing, v, v as u16, waits);
-        v = v + 1;
     }
 }
 
 // The wire of node v: back through the registers that wait, up to a node that is traced.
-fn wire_of(file: &[u8], net: &[u16], v: usize, timing: &[u16]) -> Wire
-    requires circuit { Circuit file.now net.now }
-    requires asked { let N = net_of file.now net.now in Sourced N × Ringless N × (v < size N) × HalfTraced N (roots_in timing.now) (passes_in timing.now) (size N)
-        × (length timing.now ≡ 3072) }
-    ensures { let N = net_of file.now net.now in (result.root ≡ root N v) × (result.through ≡ passed N v) }
+fn wire_of(net: &Netlist, v: usize, timing: &[u16; TIMING]) -> Wire
+    requires sourced { Sourced net.now.net }
+    requires ringless { Ringless net.now.net }
+    requires node { v < size net.now.net }
+    requires half { let N = net.now.net in HalfTraced N (roots_in timing.now) (passes_in timing.now) (size N) }
+    ensures root { result.root ≡ root net.now.net v }
+    ensures through { result.through ≡ passed net.now.net v }
 {
+    net.bounds();
     let mut u = v;
     let mut count: u16 = 0;
-    while read_at(timing, PASSES + u) == WAITS {
-        u = source_of(file, net, u, 0);
-        count = count + 1;
+    // From a register to its source: no range counts the nodes of a wire.
+    while timing[PASSES + u] == WAITS {
+        u = net.source(u, 0);
+        count += 1;
     }
+    let through = count + timing[PASSES + u];
     Wire {
-        root: read_at(timing, ROOTS + u),
-        through: count + read_at(timing, PASSES + u),
+        root: timing[ROOTS + u],
+        through,
     }
 }
 
 // Traces the registers that wait on the wire of node v, from v back; each passes one register less than the one before it.
-fn set_back(file: &[u8], net: &[u16], v: usize, wire: Wire, timing: &mut [u16])
-    requires circuit { Circuit file.now net.now }
-    requires asked { let N = net_of file.now net.now in Sourced N × Ringless N × (v < size N) × HalfTraced N (roots_in timing.old) (passes_in timing.old) (size N)
-        × (length timing.old ≡ 3072) × (wire.root ≡ root N v) × (wire.through ≡ passed N v) }
-    ensures { let N = net_of file.now net.now in HalfTraced N (roots_in timing.new) (passes_in timing.new) (size N)
-        × MoreTraced N (roots_in timing.old) (passes_in timing.old) (roots_in timing.new) (passes_in timing.new) v
-        × (take 1024 timing.new ≡ take 1024 timing.old) }
+fn set_back(net: &Netlist, v: usize, wire: Wire, timing: &mut [u16; TIMING])
+    requires sourced { Sourced net.now.net }
+    requires ringless { Ringless net.now.net }
+    requires node { v < size net.now.net }
+    requires half { let N = net.now.net in HalfTraced N (roots_in timing.old) (passes_in timing.old) (size N) }
+    requires root { wire.root ≡ root net.now.net v }
+    requires through { wire.through ≡ passed net.now.net v }
+    ensures half { let N = net.now.net in HalfTraced N (roots_in timing.new) (passes_in timing.new) (size N) }
+    ensures more { MoreTraced net.now.net (roots_in timing.old) (passes_in timing.old) (roots_in timing.new) (passes_in timing.new) v }
+    ensures leads { take 1024 timing.new ≡ take 1024 timing.old }
 {
+    net.bounds();
     let from = wire.root;
     let mut left = wire.through;
     let mut u = v;
-    while read_at(timing, PASSES + u) == WAITS {
+    // Back along the wire, as in wire_of.
+    while timing[PASSES + u] == WAITS {
         put_wire(timing, u, from, left);
-        u = source_of(file, net, u, 0);
-        left = left - 1;
+        u = net.source(u, 0);
+        left -= 1;
     }
 }
 
 // Node v; what was traced before stays so.
-fn trace(file: &[u8], net: &[u16], v: usize, timing: &mut [u16])
-    requires circuit { Circuit file.now net.now }
-    requires asked { let N = net_of file.now net.now in Sourced N × Ringless N × (v < size N) × HalfTraced N (roots_in timing.old) (passes_in timing.old) (size N)
-        × (length timing.old ≡ 3072) }
-    ensures { let N = net_of file.now net.now in HalfTraced N (roots_in timing.new) (passes_in timing.new) (size N)
-        × MoreTraced N (roots_in timing.old) (passes_in timing.old) (roots_in timing.new) (passes_in timing.new) v
-        × (take 1024 timing.new ≡ take 1024 timing.old) }
+fn trace(net: &Netlist, v: usize, timing: &mut [u16; TIMING])
+    requires sourced { Sourced net.now.net }
+    requires ringless { Ringless net.now.net }
+    requires node { v < size net.now.net }
+    requires half { let N = net.now.net in HalfTraced N (roots_in timing.old) (passes_in timing.old) (size N) }
+    ensures half { let N = net.now.net in HalfTraced N (roots_in timing.new) (passes_in timing.new) (size N) }
+    ensures more { MoreTraced net.now.net (roots_in timing.old) (passes_in timing.old) (roots_in timing.new) (passes_in timing.new) v }
+    ensures leads { take 1024 timing.new ≡ take 1024 timing.old }
 {
-    if read_at(timing, PASSES + v) == WAITS {
-        let wire = wire_of(file, net, v, timing);
-        set_back(file, net, v, wire, timing);
+    net.bounds();
+    let waits = timing[PASSES + v] == WAITS;
+    if waits {
+        let wire = wire_of(net, v, timing);
+        set_back(net, v, wire, timing);
     }
 }
 
 // Every node; each register is traced once. The leads stay; past the number of nodes nothing is said of roots and passes.
-pub fn find_roots(file: &[u8], net: &[u16], timing: &mut [u16])
-    requires circuit { Circuit file.now net.now }
-    requires asked { let N = net_of file.now net.now in Sourced N × Ringless N × (length timing.old ≡ 3072) }
-    ensures { let N = net_of file.now net.now in AllTraced N (roots_in timing.new) (passes_in timing.new) × (take 1024 timing.new ≡ take 1024 timing.old) }
+pub fn find_roots(net: &Netlist, timing: &mut [u16; TIMING])
+    requires sourced { Sourced net.now.net }
+    requires ringless { Ringless net.now.net }
+    ensures traced { AllTraced net.now.net (roots_in timing.new) (passes_in timing.new) }
+    ensures leads { take 1024 timing.new ≡ take 1024 timing.old }
 {
-    mark_all(file, net, timing);
-    let n = node_count(file, net);
-    let mut v: usize = 0;
-    while v < n {
-        trace(file, net, v, timing);
-        v = v + 1;
+    mark_all(net, timing);
+    for v in 0..net.node_count() {
+        trace(net, v, timing);
     }
 }

@@ -131,7 +131,14 @@ wired_as {N} {f} {e} {e'} {s} {s'} {c} {c'} {k} p q r w =
 pub wired_at : {N : Net} {f : Timing} {e s c : List ℕ} {k m : ℕ} → k ≡ m → WiredTo N f e s c k → WiredTo N f e s c m
 wired_at {N} {f} {e} {s} {c} p w = subst (WiredTo N f e s c) p w
 
--- one wire more in the area, and the heads stand as they were
+-- the heads stand as they were
+pub heads_kept : (l : List ℕ) (k end from at : ℕ) → k < 3072 → heads_in (set (set (set l (0 + k) end) (3072 + k) from) (6144 + k) at) ≡ heads_in l
+heads_kept l k end from at h =
+    section_before 9216 1024 (set (set l (0 + k) end) (3072 + k) from) (6144 + k) at (omega arith)
+    ∙ section_before 9216 1024 (set l (0 + k) end) (3072 + k) from (omega arith)
+    ∙ section_before 9216 1024 l (0 + k) end (omega arith)
+
+-- one wire more in the area
 module _ {N : Net} {f : Timing} (l : List ℕ) {k : ℕ} (w : Entered N f l k) (long : length l ≡ 10240) (h : k < 3072) {end from clock at : ℕ} (g : wire_at N f k ≡ true)
     (e : end ≡ root N (source_of N k)) (s : from ≡ source_of N k) (c : clock ≡ last_clock N f k) (small : clock < 65534)
     (r : at ≡ cond (memory_at N (root N (source_of N k))) (asked_clock f.origin clock) 65535) where
@@ -152,7 +159,7 @@ module _ {N : Net} {f : Timing} (l : List ℕ) {k : ℕ} (w : Entered N f l k) (
       (wired_more w (section-length 0 3072 l (omega arith)) (section-length 3072 3072 l (omega arith)) (section-length 6144 3072 l (omega arith)) h g e s c small r)
 
   put_heads : heads_in all_put ≡ heads_in l
-  put_heads = section_before 9216 1024 two_put (6144 + k) at (omega arith) ∙ section_before 9216 1024 one_put (3072 + k) from (omega arith) ∙ section_before 9216 1024 l (0 + k) end (omega arith)
+  put_heads = heads_kept l k end from at h
 
   pub entered_more : {a b z : List ℕ} → a ≡ set l (0 + k) end → b ≡ set a (3072 + k) from → z ≡ set b (6144 + k) at → Entered N f z (k + 1) × (heads_in z ≡ heads_in l)
   entered_more x y q =

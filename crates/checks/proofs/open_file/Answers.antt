@@ -1,13 +1,14 @@
--- A refusal of checks 1 to 5, or the verdict on the circuit.
-use Rattle.opening.specs.Opening.{filled-refused, filled_fine}
-use Rattle.checks.specs.Open.{turned_away}
-use Rattle.checks.specs.Opens.{bad_file, opened_by}
+-- A refusal of checks 1 to 5, or the verdict on the netlist.
+use Rattle.std.proofs.lemmas.Result.{err_from_is_err_and}
+use Rattle.checks.specs.Opens.{bad_file, refused_by}
 use Rattle.checks.proofs.open_file.Goals as goal
 
-pub returns-in-Refuses : goal.returns-in-Refuses
-returns-in-Refuses c = turned_away (bad_file _ (filled-refused c.fill_circuit.ensures c.in-Refuses.is))
+pub returns-in_err-draft-clause-err : goal.returns-in_err-draft-clause-err
+returns-in_err-draft-clause-err c =
+    let p = err_from_is_err_and c.from_residual.result c.from_residual.ensures.1 in
+    rw (p.1, p.2) (bad_file _ c.in_err-draft.ensures.err)
 
-pub returns-in-Fine : goal.returns-in-Fine
-returns-in-Fine c =
-    let k = c.net_verdict.ensures in
-    opened_by (filled_fine c.fill_circuit.ensures c.in-Fine.is).0 k.0 k.1 k.2 k.3
+pub returns-in_err-check_net-clause-err : goal.returns-in_err-check_net-clause-err
+returns-in_err-check_net-clause-err c =
+    let p = err_from_is_err_and c.from_residual-in_err-check_net.result c.from_residual-in_err-check_net.ensures.1 in
+    rw (p.1, p.2) (refused_by _ c.in_ok-draft.ensures.ok.reads _ c.in_err-check_net.ensures.verdict)

@@ -1,5 +1,5 @@
 use mathlib.Core.Path.{◌≡◌}
-use Prim.Native.Nat.{◌-◌, ◌≤◌}
+use Prim.Native.Nat.{◌≤◌}
 use lib.Dec.{eqb}
 use Rattle.lists.specs.Lists.{count_below}
 use Rattle.netlist.specs.Net.{element_at}
@@ -8,7 +8,4 @@ use Rattle.circuit.specs.Circuit.{net_of}
 use Rattle.circuit.proofs.count_kind.Given as goal
 
 abbrev pub invariant-loop-v : goal.invariant-loop-v
-invariant-loop-v l = (l.v ≤ l.n) × (l.count ≡ count_below (λ u. eqb (code_of (element_at (net_of l.file l.net) u)) l.kind) l.v) × (l.count ≤ l.v)
-
-abbrev pub decreases-loop-v : goal.decreases-loop-v
-decreases-loop-v l = l.n - l.v
+invariant-loop-v l = (l.count ≡ count_below (λ u. eqb (code_of (element_at (net_of l.file l.net) u)) l.kind) l.v) × (l.count ≤ l.v)

@@ -1,7 +1,10 @@
-use mathlib.Core.Path.{sym, ◌∙◌}
+use mathlib.Core.Path.{sym}
 use native.Mathlib.Omega.{arith}
 use Rattle.circuit.proofs.CircuitLaws.{size_of}
 use Rattle.circuit.proofs.node_count.Goals as goal
 
-pub returns : goal.returns
-returns c = (c.wide.ensures.0 ∙ sym (size_of _ _), omega (arith, size_of c.args.file.now c.args.net.now, c.wide.ensures.0))
+pub returns-clause-count : goal.returns-clause-count
+returns-clause-count c = sym (size_of _ _)
+
+pub returns-clause-few : goal.returns-clause-few
+returns-clause-few c = omega (arith, size_of c.args.file.now c.args.net.now, c.requires.few)

@@ -8,4 +8,4 @@ pub returns : goal.returns
 returns c =
     let a = c.args in
     let three : length a.row.sources ≡ 3 = search rules in
-    row_put a.net.now a.v a.row (three_are a.row.sources three) c.requires.0 c.requires.1 c.requires.2 c.requires.3
+    row_put a.net.now a.v a.row (three_are a.row.sources three) c.requires.formed c.requires.place c.requires.few c.requires.fits

@@ -6,8 +6,14 @@ use Rattle.circuit.specs.Circuit.{net_of}
 use Rattle.circuit.proofs.CircuitLaws.{count_at}
 use Rattle.circuit.proofs.source_count.Goals as goal
 
-pub returns : goal.returns
-returns c =
+pub returns-clause-count : goal.returns-clause-count
+returns-clause-count c =
     let a = c.args in
-    let e = c.field_of.ensures.0 ∙ count_at _ _ c.requires.0 _ c.requires.1 in
-    (e, omega (arith, e, few_operands (element_at (net_of a.file.now a.net.now) a.v)))
+    let e = c.field_of.ensures.word ∙ count_at _ _ c.requires.circuit _ c.requires.node in
+    e
+
+pub returns-clause-few : goal.returns-clause-few
+returns-clause-few c =
+    let a = c.args in
+    let e = c.field_of.ensures.word ∙ count_at _ _ c.requires.circuit _ c.requires.node in
+    omega (arith, e, few_operands (element_at (net_of a.file.now a.net.now) a.v))

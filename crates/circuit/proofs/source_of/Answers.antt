@@ -2,5 +2,8 @@ use mathlib.Core.Path.{◌∙◌}
 use Rattle.circuit.proofs.CircuitLaws.{source_at}
 use Rattle.circuit.proofs.source_of.Goals as goal
 
-pub returns : goal.returns
-returns c = (c.field_of.ensures.0 ∙ source_at _ _ c.requires.0 _ c.requires.1 _ c.requires.2, c.field_of.ensures.1)
+pub returns-clause-source : goal.returns-clause-source
+returns-clause-source c = c.field_of.ensures.word ∙ source_at _ _ c.requires.circuit _ c.requires.node _ c.requires.place
+
+pub returns-clause-few : goal.returns-clause-few
+returns-clause-few c = c.field_of.ensures.few

@@ -7,5 +7,8 @@ use Rattle.circuit.specs.Code.{table_or}
 use Rattle.circuit.proofs.CircuitLaws.{row_of, table_at}
 use Rattle.circuit.proofs.table_of.Goals as goal
 
-pub returns : goal.returns
-returns c = let a = c.args in let e = c.field_of.ensures.0 in (e ∙ table_at a.file.now a.net.now c.requires.0 a.v c.requires.1 ∙ ap (λ (x : ℕ). table_or x (element_at (net_of a.file.now a.net.now) a.v)) (sym e), omega (arith, e, (row_of a.file.now a.net.now c.requires.0 a.v c.requires.1).table))
+pub returns-clause-table : goal.returns-clause-table
+returns-clause-table c = let a = c.args in let e = c.field_of.ensures.word in e ∙ table_at a.file.now a.net.now c.requires.circuit a.v c.requires.node ∙ ap (λ (x : ℕ). table_or x (element_at (net_of a.file.now a.net.now) a.v)) (sym e)
+
+pub returns-clause-few : goal.returns-clause-few
+returns-clause-few c = let a = c.args in let e = c.field_of.ensures.word in omega (arith, e, (row_of a.file.now a.net.now c.requires.circuit a.v c.requires.node).table)

@@ -1,14 +1,10 @@
--- A reset word, or 0 of what holds none.
+-- A register or a clocked ROM begins with its reset word; what holds no word and is loaded is an input port.
 use mathlib.Core.Path.{sym, ◌∙◌}
 use Rattle.first_clocks.specs.ZeroRun.{first_none, first_read}
 use Rattle.first_clocks.proofs.first_word.Goals as goal
 
-pub returns-then-holds : goal.returns-then-holds
-returns-then-holds c =
-    let p = c.requires.asked in
-    first_read _ p.0 c.args.v p.1 (sym c.in_row-holds.ensures ∙ c.if-holds.true) c.number_of.ensures.0
+pub returns-then-in_row : goal.returns-then-in_row
+returns-then-in_row c = first_read _ c.requires.formed c.args.v c.requires.node (sym c.in_row.ensures ∙ c.if-in_row.true) c.number.ensures.number
 
-pub returns-else-holds : goal.returns-else-holds
-returns-else-holds c =
-    let p = c.requires.asked in
-    first_none _ p.0 c.args.v p.1 (sym c.in_row-holds.ensures ∙ c.if-holds.false)
+pub returns-else-in_row : goal.returns-else-in_row
+returns-else-in_row c = first_none _ c.requires.formed c.args.v c.requires.node (sym c.in_row.ensures ∙ c.if-in_row.false)

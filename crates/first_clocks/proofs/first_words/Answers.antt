@@ -1,10 +1,9 @@
--- Named, taken at the first clock, and then clock by clock.
+-- What is due at clock 0 is taken from the words of the first clock, and what is due later as the clocks run.
 use mathlib.Core.List.{List}
 use Prim.Native.Nat.{ℕ, ◌+◌, ◌≤◌}
 use native.Mathlib.Omega.{arith}
 use lib.ListN.{length}
 use Rattle.netlist.specs.Net.{Net}
-use Rattle.circuit.specs.Circuit.{net_of}
 use Rattle.first_clocks.specs.Queue.{TakenTo}
 use Rattle.first_clocks.specs.Wanted.{WordsAt, NamedFrom, TakenBefore, taken_none, taken_more, taken_all}
 use Rattle.first_clocks.proofs.first_words.Goals as goal
@@ -15,14 +14,12 @@ first N clocks wanted before {dues} n few w t = taken_more N clocks wanted dues 
 pub returns-then-limit-gt1 : goal.returns-then-limit-gt1
 returns-then-limit-gt1 c =
     let a = c.args in
-    let p = c.requires in
-    let n = c.name_holders-limit in
-    let t = first (net_of a.file.now a.net.now) a.clocks.now a.wanted.now a.found.now n.ensures.0 p.asked.6 p.asked.8 c.take_due.ensures in
-    taken_all _ _ _ _ _ n.ensures.0 (omega arith) (c.take_later.ensures a.clocks.now a.wanted.now a.found.now p.asked.6 (λ k l d. (n.ensures.0.some k l d).2) t)
+    let n = c.name_holders-limit.ensures.named in
+    let t = first a.net.now.net a.clocks.now a.wanted.now a.found.now n c.requires.places c.requires.start c.take_due.ensures in
+    taken_all _ _ _ _ _ n (omega arith) (c.take_later.ensures a.clocks.now a.wanted.now a.found.now c.requires.places (λ k l d. (n.some k l d).2) t)
 
 pub returns-else-limit-gt1 : goal.returns-else-limit-gt1
 returns-else-limit-gt1 c =
     let a = c.args in
-    let p = c.requires in
-    let n = c.name_holders-limit in
-    taken_all _ _ _ _ _ n.ensures.0 (omega (arith, c.if-limit-gt1.false)) (first (net_of a.file.now a.net.now) a.clocks.now a.wanted.now a.found.now n.ensures.0 p.asked.6 p.asked.8 c.take_due.ensures)
+    let n = c.name_holders-limit.ensures.named in
+    taken_all _ _ _ _ _ n (omega (arith, c.if-limit-gt1.false)) (first a.net.now.net a.clocks.now a.wanted.now a.found.now n c.requires.places c.requires.start c.take_due.ensures)

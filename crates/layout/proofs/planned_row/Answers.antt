@@ -1,7 +1,5 @@
 -- An entry, a register, or what a late start adds.
-use mathlib.Core.Path.{◌∙◌}
-use native.Mathlib.Omega.{arith}
-use Rattle.circuit.specs.Circuit.{net_of}
+use Rattle.std.proofs.Common.{refl, ◌∙◌, arith}
 use Rattle.plan.specs.Areas.{owners_in, late_in, sources_in}
 use Rattle.layout.specs.NewRow.{row_as}
 use Rattle.layout.specs.PlannedNode.{owner_read, node_by, entry_as, register_as}
@@ -11,40 +9,35 @@ pub source_count-n-requires : goal.source_count-n-requires
 source_count-n-requires c =
     let a = c.args in
     let p = c.requires in
-    let owner = (c.wide-owner.ensures.0 ∙ c.read_at.ensures ∙ owner_read a.plan.now a.i (omega (arith, p.asked.1, p.asked.2))) in
-    (p.circuit, omega (arith, owner, p.asked.0.inside a.i p.asked.2 (λ l. absurd (omega (arith, p.asked.0.first, c.if-i-made.true)))))
+    omega (arith, owner_read a.from.now.plan.now a.i (omega arith), p.planned.inside a.i p.node (λ l. absurd (omega (arith, p.planned.first, c.if-i-from.true))))
 
-pub entry_row-requires-clause-asked : goal.entry_row-requires-clause-asked
-entry_row-requires-clause-asked c =
+pub entry_row-requires : goal.entry_row-requires
+entry_row-requires c =
     let a = c.args in
     let p = c.requires in
-    let owner = (c.wide-owner.ensures.0 ∙ c.read_at.ensures ∙ owner_read a.plan.now a.i (omega (arith, p.asked.1, p.asked.2))) in
-    omega (arith, owner, p.asked.0.inside a.i p.asked.2 (λ l. absurd (omega (arith, p.asked.0.first, c.if-i-made.true))))
+    omega (arith, owner_read a.from.now.plan.now a.i (omega arith), p.planned.inside a.i p.node (λ l. absurd (omega (arith, p.planned.first, c.if-i-from.true))))
 
-pub returns-then-i-made : goal.returns-then-i-made
-returns-then-i-made c =
+pub returns-then-i-from : goal.returns-then-i-from
+returns-then-i-from c =
     let a = c.args in
     let p = c.requires in
     row_as c.entry_row.ensures
-    (entry_as (net_of a.file.now a.net.now) (owners_in a.plan.now) a.words.now (late_in a.plan.now) (sources_in a.plan.now) a.i
-    (c.wide-owner.ensures.0 ∙ c.read_at.ensures ∙ owner_read a.plan.now a.i (omega (arith, p.asked.1, p.asked.2)))
-    c.read_at-word.ensures c.source_count-n.ensures.0
+    (entry_as a.from.now.net.now.net (owners_in a.from.now.plan.now) a.from.now.words.now (late_in a.from.now.plan.now) (sources_in a.from.now.plan.now) a.i
+    (owner_read a.from.now.plan.now a.i (omega arith)) refl c.source_count-n.ensures.count
     c.read_by-first.ensures c.read_by-second.ensures c.read_by-third.ensures
-    ∙ (node_by p.asked.0 a.i p.asked.2).entry c.if-i-made.true)
+    ∙ (node_by p.planned a.i p.node).entry c.if-i-from.true)
 
-pub width_of-width-requires : goal.width_of-width-requires
-width_of-width-requires c =
+pub width-width-requires : goal.width-width-requires
+width-width-requires c =
     let a = c.args in
     let p = c.requires in
-    let owner = (c.wide-owner.ensures.0 ∙ c.read_at.ensures ∙ owner_read a.plan.now a.i (omega (arith, p.asked.1, p.asked.2))) in
-    (p.circuit, omega (arith, owner, p.asked.0.inside a.i p.asked.2 (λ l. absurd (omega (arith, c.if-i-made-2.true)))))
+    omega (arith, owner_read a.from.now.plan.now a.i (omega arith), p.planned.inside a.i p.node (λ l. absurd (omega (arith, c.if-i-from-2.true))))
 
-pub returns-then-i-made-2 : goal.returns-then-i-made-2
-returns-then-i-made-2 c =
+pub returns-then-i-from-2 : goal.returns-then-i-from-2
+returns-then-i-from-2 c =
     let a = c.args in
     let p = c.requires in
     row_as c.register_row.ensures
-    (register_as (net_of a.file.now a.net.now) (owners_in a.plan.now) a.words.now (late_in a.plan.now) (sources_in a.plan.now) a.i
-    (c.wide-owner.ensures.0 ∙ c.read_at.ensures ∙ owner_read a.plan.now a.i (omega (arith, p.asked.1, p.asked.2)))
-    c.width_of-width.ensures.0 c.read_at-word.ensures c.read_by.ensures
-    ∙ (node_by p.asked.0 a.i p.asked.2).register c.if-i-made.false c.if-i-made-2.true)
+    (register_as a.from.now.net.now.net (owners_in a.from.now.plan.now) a.from.now.words.now (late_in a.from.now.plan.now) (sources_in a.from.now.plan.now) a.i
+    (owner_read a.from.now.plan.now a.i (omega arith)) c.width-width.ensures.width refl c.read_by.ensures
+    ∙ (node_by p.planned a.i p.node).register c.if-i-from.false c.if-i-from-2.true)

@@ -1,4 +1,3 @@
-use Prim.Native.Nat.{◌-◌}
 use lib.ListN.{get_or}
 use lib.Dec.{ltb}
 use Rattle.lists.proofs.SearchLaws.{Passed}
@@ -6,6 +5,3 @@ use Rattle.leads.proofs.over_bound.Given as goal
 
 abbrev pub invariant-loop-v : goal.invariant-loop-v
 invariant-loop-v l = Passed (λ i. ltb l.bound (get_or l.leads i 0)) l.v
-
-abbrev pub decreases-loop-v : goal.decreases-loop-v
-decreases-loop-v l = l.n - l.v

@@ -1,14 +1,12 @@
--- An input port owes where its number is above the origin.
-use Rattle.circuit.specs.Circuit.{net_of}
-use Rattle.leads.proofs.ByMode.{owes_is, owes_not}
+-- An input port owes where its number is above the base.
+use mathlib.Core.Path.{sym, ◌∙◌}
+use Rattle.leads.specs.Debts.{owing_by}
 use Rattle.leads.proofs.owes.Goals as goal
 
-pub returns-then-input-eq1 : goal.returns-then-input-eq1
-returns-then-input-eq1 c =
-    let a = c.args in
-    owes_is (net_of a.file.now a.net.now) a.v c.input.ensures.0 a.base a.leads.now c.if-input-eq1.true c.read_at.ensures
+pub returns-then-is_input : goal.returns-then-is_input
+unfolding owing_by
+returns-then-is_input c = rw (sym c.is_input.ensures ∙ c.if-is_input.true)
 
-pub returns-else-input-eq1 : goal.returns-else-input-eq1
-returns-else-input-eq1 c =
-    let a = c.args in
-    owes_not (net_of a.file.now a.net.now) a.v c.input.ensures.0 a.base a.leads.now c.if-input-eq1.false
+pub returns-else-is_input : goal.returns-else-is_input
+unfolding owing_by
+returns-else-is_input c = rw (sym c.is_input.ensures ∙ c.if-is_input.false) c.if-is_input.false

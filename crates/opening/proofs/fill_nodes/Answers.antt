@@ -1,26 +1,37 @@
-use mathlib.Core.Path.{sym, ◌∙◌}
-use native.Mathlib.Omega.{arith}
+use Rattle.std.proofs.Common.{◌∙◌, sym, arith}
+use Rattle.std.proofs.lemmas.Result.{err_from_is_err_and}
 use Rattle.reader.specs.Fields.{node_inside}
-use Rattle.opening.specs.Turn.{node_bounds, node_there, shown, node_turns, bad_node, nodes-read, node_refused, node_taken}
+use Rattle.opening.specs.Turn.{node_bounds, node_there, shown, node_turns, node_refused, node_taken}
 use Rattle.opening.proofs.fill_nodes.Goals as goal
 
-pub node_end-next-requires : goal.node_end-next-requires
-node_end-next-requires c = (c.loop-next.invariant.1.1.small, node_inside _ _ (sym c.node_stands.ensures ∙ c.loop-next-test.true))
+pub node_end-requires : goal.node_end-requires
+node_end-requires c = record { small = c.loop-from.invariant.turn.small; inside = node_inside _ _ (sym c.node_stands.ensures ∙ c.loop-from-test.true) }
 
-pub returns-then-next-eq0 : goal.returns-then-next-eq0
-returns-then-next-eq0 c = bad_node (node_refused c.loop-next.invariant.1.1 (sym c.node_stands.ensures ∙ c.loop-next-test.true) c.node_end-next.ensures c.if-next-eq0.true)
+pub returns-in_err-next-clause-err : goal.returns-in_err-next-clause-err
+returns-in_err-next-clause-err c =
+    let p = err_from_is_err_and c.from_residual.result c.from_residual.ensures.1 in
+    rw (p.1, p.2) (node_refused c.loop-from.invariant.turn (sym c.node_stands.ensures ∙ c.loop-from-test.true) _ c.in_err-next.ensures)
 
 pub row_at-requires : goal.row_at-requires
-row_at-requires c = node_there c.loop-next.invariant.1.1 (node_taken c.loop-next.invariant.1.1 (sym c.node_stands.ensures ∙ c.loop-next-test.true) c.node_end-next.ensures c.if-next-eq0.false)
+row_at-requires c = node_there c.loop-from.invariant.turn (node_taken c.loop-from.invariant.turn (sym c.node_stands.ensures ∙ c.loop-from-test.true) c.in_ok-next.ensures)
 
 pub push_row-requires : goal.push_row-requires
-push_row-requires c = (c.loop-next.invariant.1.1.built.formed, shown c.loop-next.invariant.1.1, (node_bounds c.loop-next.invariant.1.1 (node_taken c.loop-next.invariant.1.1 (sym c.node_stands.ensures ∙ c.loop-next-test.true) c.node_end-next.ensures c.if-next-eq0.false)).2, c.row_at.ensures.0)
+push_row-requires c =
+    let w = c.loop-from.invariant.turn in
+    record {
+      formed = w.built.formed;
+      place = shown w;
+      few = (node_bounds w (node_taken w (sym c.node_stands.ensures ∙ c.loop-from-test.true) c.in_ok-next.ensures)).2;
+      fits = c.row_at.ensures.fits;
+    }
 
-pub loop-next-smaller : goal.loop-next-smaller
-loop-next-smaller c = omega (arith, node_bounds c.loop-next.invariant.1.1 (node_taken c.loop-next.invariant.1.1 (sym c.node_stands.ensures ∙ c.loop-next-test.true) c.node_end-next.ensures c.if-next-eq0.false))
+pub loop-from-smaller : goal.loop-from-smaller
+loop-from-smaller c = omega (arith, node_bounds c.loop-from.invariant.turn (node_taken c.loop-from.invariant.turn (sym c.node_stands.ensures ∙ c.loop-from-test.true) c.in_ok-next.ensures))
 
-pub loop-next-preserved : goal.loop-next-preserved
-loop-next-preserved c = (c.push_row.auto.net ∙ c.loop-next.invariant.0, (c.loop-next.invariant.1.0, node_turns c.loop-next.invariant.1.1 (node_taken c.loop-next.invariant.1.1 (sym c.node_stands.ensures ∙ c.loop-next-test.true) c.node_end-next.ensures c.if-next-eq0.false) c.row_at.ensures.1 c.push_row.ensures, λ z. absurd (omega arith)))
-
-pub returns : goal.returns
-returns c = nodes-read c.loop-next.invariant.1.0 _ c.loop-next.invariant.1.1 c.loop-next.invariant.1.2 (sym c.node_stands.ensures ∙ c.loop-next-test.false)
+pub loop-from-preserved : goal.loop-from-preserved
+loop-from-preserved c =
+    let w = c.loop-from.invariant.turn in record {
+      tables = c.loop-from.invariant.tables;
+      turn = node_turns w (node_taken w (sym c.node_stands.ensures ∙ c.loop-from-test.true) c.in_ok-next.ensures) c.row_at.ensures.node c.push_row.ensures;
+      first = λ z. absurd (omega arith);
+    }

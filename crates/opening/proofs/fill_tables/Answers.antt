@@ -1,27 +1,26 @@
-use mathlib.Core.Path.{refl, sym, ◌∙◌}
-use native.Mathlib.Omega.{arith}
+use Rattle.std.proofs.Common.{◌∙◌, sym, arith}
+use Rattle.std.proofs.lemmas.Result.{err_from_is_err_and}
 use Rattle.reader.specs.Fields.{table_inside}
-use Rattle.opening.specs.Opening.{built_none}
-use Rattle.opening.specs.Turn.{start, table_bounds, table_turns, bad_table, tables-read, table-refused, table_taken}
+use Rattle.circuit.proofs.Heading.{built_none}
+use Rattle.opening.specs.Turn.{start, table_bounds, table_turns, table-refused, table_taken}
 use Rattle.opening.proofs.fill_tables.Goals as goal
 
-pub loop-next-init : goal.loop-next-init
-loop-next-init c = (refl, start _ _ 0 c.requires.0 c.requires.1 refl (built_none c.args.net.now c.requires.2))
+pub loop-at-init : goal.loop-at-init
+loop-at-init c = start _ _ c.requires.small c.requires.headed (built_none c.args.net.now c.requires.room)
 
-pub table_end-next-requires : goal.table_end-next-requires
-table_end-next-requires c = (c.loop-next.invariant.1.small, table_inside _ _ (sym c.table_stands.ensures ∙ c.loop-next-test.true))
+pub table_end-requires : goal.table_end-requires
+table_end-requires c = record { small = c.loop-at.invariant.small; inside = table_inside _ _ (sym c.table_stands.ensures ∙ c.loop-at-test.true) }
 
-pub returns-then-next-eq0 : goal.returns-then-next-eq0
-returns-then-next-eq0 c = bad_table (table-refused c.loop-next.invariant.1 (sym c.table_stands.ensures ∙ c.loop-next-test.true) c.table_end-next.ensures c.if-next-eq0.true)
+pub returns-in_err-next-clause-err : goal.returns-in_err-next-clause-err
+returns-in_err-next-clause-err c =
+    let p = err_from_is_err_and c.from_residual.result c.from_residual.ensures.1 in
+    rw (p.1, p.2) (table-refused c.loop-at.invariant (sym c.table_stands.ensures ∙ c.loop-at-test.true) _ c.in_err-next.ensures)
 
-pub put_table-requires : goal.put_table-requires
-put_table-requires c = ((table_bounds c.loop-next.invariant.1 (table_taken c.loop-next.invariant.1 (sym c.table_stands.ensures ∙ c.loop-next-test.true) c.table_end-next.ensures c.if-next-eq0.false)).2, c.loop-next.invariant.1.built.formed.room)
+pub put_table-requires-clause-few : goal.put_table-requires-clause-few
+put_table-requires-clause-few c = (table_bounds c.loop-at.invariant (table_taken c.loop-at.invariant (sym c.table_stands.ensures ∙ c.loop-at-test.true) c.in_ok-next.ensures)).2
 
-pub loop-next-smaller : goal.loop-next-smaller
-loop-next-smaller c = omega (arith, table_bounds c.loop-next.invariant.1 (table_taken c.loop-next.invariant.1 (sym c.table_stands.ensures ∙ c.loop-next-test.true) c.table_end-next.ensures c.if-next-eq0.false))
+pub loop-at-smaller : goal.loop-at-smaller
+loop-at-smaller c = omega (arith, table_bounds c.loop-at.invariant (table_taken c.loop-at.invariant (sym c.table_stands.ensures ∙ c.loop-at-test.true) c.in_ok-next.ensures))
 
-pub loop-next-preserved : goal.loop-next-preserved
-loop-next-preserved c = (c.put_table.auto.net ∙ c.loop-next.invariant.0, table_turns c.loop-next.invariant.1 (table_taken c.loop-next.invariant.1 (sym c.table_stands.ensures ∙ c.loop-next-test.true) c.table_end-next.ensures c.if-next-eq0.false) c.put_table.ensures)
-
-pub returns : goal.returns
-returns c = tables-read _ c.loop-next.invariant.1 (sym c.table_stands.ensures ∙ c.loop-next-test.false)
+pub loop-at-preserved : goal.loop-at-preserved
+loop-at-preserved c = table_turns c.loop-at.invariant (table_taken c.loop-at.invariant (sym c.table_stands.ensures ∙ c.loop-at-test.true) c.in_ok-next.ensures) c.put_table.ensures

@@ -1,19 +1,17 @@
-use mathlib.Core.Path.{ap, ◌∙◌}
-use Prim.Native.Nat.{◌<◌}
-use native.Mathlib.Omega.{arith}
-use lib.ListN.{length}
-use Rattle.netlist.specs.Net.{size}
-use Rattle.circuit.specs.Circuit.{order_of}
-use Rattle.circuit.proofs.CircuitLaws.{size_of, size_order}
+use Rattle.std.proofs.Common.{◌<◌, ◌∙◌, ap, arith, length, length-set}
+use Rattle.circuit.specs.Shown.{Shown}
 use Rattle.order.proofs.Places.{copied_more}
 use Rattle.order.proofs.keep_order.Goals as goal
 
 pub loop-i-preserved : goal.loop-i-preserved
 loop-i-preserved c =
-    let a = c.args in
     let l = c.loop-i in
-    let k = l.invariant in
-    let w = c.put_order in
-    let x = c.read_at.ensures in
-    let h : l.i < length (order_of l.net) = omega (arith, size_order l.net, size_of a.file.now l.net, ap size k.2, c.loop-i-test.true, c.node_count-n.ensures.0) in
-    (omega arith, w.auto.net ∙ k.1, w.ensures.0 ∙ k.2, w.ensures.1, copied_more (order_of l.net) a.area.now h w.ensures.2 x k.4)
+    let w = c.put_turn.ensures in
+    let h : l.i < length l.draft.order = omega (arith, l.invariant.long, c.loop-i-test.true, c.node_count-n.ensures.count) in
+    let order = ap (λ (x : Shown). x.order) w in
+    record {
+      file = ap (λ (x : Shown). x.file) w ∙ l.invariant.file;
+      net = ap (λ (x : Shown). x.net) w ∙ l.invariant.net;
+      long = ap length order ∙ length-set l.draft.order l.i _ ∙ l.invariant.long;
+      order = copied_more l.draft.order c.args.area.now h order c.read_at.ensures l.invariant.order;
+    }

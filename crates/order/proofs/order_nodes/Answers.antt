@@ -1,18 +1,18 @@
 -- The nodes in file order, then those that wait, then passes over what is left; and the order is kept.
-use mathlib.Core.Path.{refl}
-use lib.ListN.{replicate}
-use Rattle.netlist.specs.Net.{in_clock}
-use Rattle.circuit.specs.Circuit.{net_of, order_of}
+use Rattle.std.proofs.Common.{refl, sym, subst, replicate}
+use Rattle.netlist.specs.Net.{in_clock, Sourced}
+use Rattle.circuit.specs.Shown.{Shown}
+use Rattle.order.specs.Order.{Outcome}
 use Rattle.order.proofs.Places.{placed_start, outcome_in}
 use Rattle.order.proofs.order_nodes.Goals as goal
 
-pub returns : goal.returns
-returns c =
-    let s = c in
+pub sweep-first-requires-clause-placed : goal.sweep-first-requires-clause-placed
+sweep-first-requires-clause-placed c = placed_start in_clock c.shown-net.result.net (replicate 4096 0) refl c.bounds.ensures.nodes
+
+pub returns-clause-outcome : goal.returns-clause-outcome
+returns-clause-outcome c =
     let w = c.settle-settled in
     let o = c.keep_order in
-    (o.ensures.0, o.ensures.1, outcome_in in_clock (net_of s.args.file.now s.args.net.now) w.new.area (order_of o.new.net) s.requires.circuit.few s.requires.asked w.ensures.0 w.ensures.1 o.ensures.2)
-
-pub sweep-first-requires-clause-asked : goal.sweep-first-requires-clause-asked
-sweep-first-requires-clause-asked c =
-    (c.requires.asked, refl, placed_start in_clock (net_of c.args.file.now c.args.net.now) (replicate 4096 0) refl c.requires.circuit.few)
+    let e = c.shown-net.ensures in
+    subst (λ (h : Shown). Outcome in_clock h.net o.new.draft.order w.result) e
+    (outcome_in in_clock c.shown-net.result.net w.new.area o.new.draft.order c.bounds.ensures.nodes (subst (λ (h : Shown). Sourced h.net) (sym e) c.requires) w.ensures.placed w.ensures.waiting (rw e o.ensures.order))

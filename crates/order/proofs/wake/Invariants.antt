@@ -1,14 +1,8 @@
 -- The loop's invariant: so many are placed.
-use mathlib.Core.Path.{◌≡◌}
-use Prim.Native.Nat.{◌-◌, ◌≤◌}
-use lib.ListN.{length}
+use Prim.Native.Nat.{◌≤◌}
 use Rattle.netlist.specs.Net.{in_clock}
-use Rattle.circuit.specs.Circuit.{net_of}
 use Rattle.order.specs.Order.{flags_in, order_in, Placed}
 use Rattle.order.proofs.wake.Given as goal
 
 abbrev pub invariant-loop-i : goal.invariant-loop-i
-invariant-loop-i l = (length l.area ≡ length l.initial.area) × (l.w ≤ 65535) × (l.i ≤ 1024) × Placed in_clock (net_of l.file l.net) (flags_in l.area) (order_in l.area) l.k
-
-abbrev pub decreases-loop-i : goal.decreases-loop-i
-decreases-loop-i l = 1024 - l.i
+invariant-loop-i l = (l.w ≤ 65535) × Placed in_clock l.net.net (flags_in l.area) (order_in l.area) l.k

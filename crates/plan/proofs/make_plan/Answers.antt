@@ -1,68 +1,50 @@
 -- The steps one after the other.
-use mathlib.Core.Path.{refl, ap, ◌∙◌}
+use mathlib.Core.Path.{ap}
 use Prim.Native.Nat.{ℕ, ◌*◌}
 use native.Mathlib.Omega.{arith}
-use lib.ListN.{length, length-replicate}
-use Rattle.circuit.specs.Circuit.{net_of}
+use lib.ListN.{length}
 use Rattle.plan.specs.PlanLaws.{entered_none, linked_first, links_made, wants_linked, planning_linked, laid_filled, plan_laid, many_entries}
 use Rattle.plan.proofs.make_plan.Goals as goal
 
-pub enter_wires-requires-clause-asked : goal.enter_wires-requires-clause-asked
-enter_wires-requires-clause-asked c =
-    let p = c.requires in
-    let a = c.args in
-    let f = c.fill in
-    (p.asked.0, p.asked.1, f.auto.numbers ∙ p.asked.6, entered_none (net_of a.file.now a.net.now) _ f.new.numbers {n = length a.wires.now} f.ensures (omega (arith, p.asked.6)))
+pub enter_wires-requires-clause-entered : goal.enter_wires-requires-clause-entered
+enter_wires-requires-clause-entered c =
+    let whole = rw c.unwrap-wires.ensures at c.as_mut_array.ensures.cases in
+    entered_none c.args.net.now.net _ c.fill.new.self (c.fill.ensures.after (λ y q. q)) (omega (arith, ap length whole.same, c.requires.wires))
 
-pub link_wires-requires : goal.link_wires-requires
-link_wires-requires c =
-    let p = c.requires in
-    let n = c.node_count.ensures.1 in
-    let f = c.fill in
+pub link_wires-requires-clause-linked : goal.link_wires-requires-clause-linked
+link_wires-requires-clause-linked c =
+    let whole = rw c.unwrap-wires.ensures at c.as_mut_array.ensures.cases in
+    linked_first c.enter_wires.new.wires c.fill.new.self c.enter_wires.ensures.heads (c.fill.ensures.after (λ y q. q)) (omega (arith, ap length whole.same, c.requires.wires)) (omega (arith, c.node_count.ensures.few))
+
+pub place_entries-entries-requires-clause-words : goal.place_entries-entries-requires-clause-words
+place_entries-entries-requires-clause-words c =
     let e = c.enter_wires in
-    (omega (arith, n), e.auto.wires ∙ f.auto.numbers ∙ p.asked.6, linked_first e.new.wires f.new.numbers {n = length c.args.wires.now} e.ensures.1 f.ensures (omega (arith, p.asked.6)) (omega (arith, n)))
+    wants_linked e.new.wires c.requires.timed e.ensures.entered e.array_long c.link_wires.new.wires c.link_wires.ensures.ends c.copied_words.ensures
 
-pub place_entries-entries-requires-clause-asked : goal.place_entries-entries-requires-clause-asked
-place_entries-entries-requires-clause-asked c =
-    let t = c.requires.asked in
+pub place_entries-entries-requires-clause-linked : goal.place_entries-entries-requires-clause-linked
+place_entries-entries-requires-clause-linked c =
     let e = c.enter_wires in
-    let w = e.ensures.0 in
-    let l = e.new.wires in
-    let long = e.auto.wires ∙ c.fill.auto.numbers ∙ t.6 in
-    let links = c.link_wires in
-    let k = links.new.wires in
-    let same = links.ensures.1 in
-    let taken = c.copied_words in
-    let z = ap (λ (n : ℕ). 3 * n) c.node_count.ensures.0 in
-    (t.0, t.1, links.auto.wires ∙ long, taken.auto.copied ∙ length-replicate {A = ℕ} 3072 0, c.fill-2.auto.numbers ∙ taken.auto.queue ∙ t.7, wants_linked l t.0 w long k same taken.ensures, links_made l t.0 w long k same z links.ensures.0)
+    links_made e.new.wires c.requires.timed e.ensures.entered e.array_long c.link_wires.new.wires c.link_wires.ensures.ends (ap (λ (n : ℕ). 3 * n) c.node_count.ensures.count) c.link_wires.ensures.linked
 
-pub returns-then-entries-gt1024 : goal.returns-then-entries-gt1024
-returns-then-entries-gt1024 c =
-    let a = c.args in
+pub lay_wires-total-requires-clause-planned : goal.lay_wires-total-requires-clause-planned
+lay_wires-total-requires-clause-planned c =
+    let e = c.enter_wires in
     let r = c.place_entries-entries in
-    (many_entries (net_of a.file.now a.net.now) _ r.new.plan r.ensures.0 c.if-entries-gt1024.true, refl)
+    planning_linked e.new.wires c.requires.timed e.ensures.entered e.array_long c.link_wires.new.wires c.link_wires.ensures.ends c.copied_words.ensures r.new.plan r.ensures.placed c.if-entries-gt1024.false
 
-pub lay_wires-total-requires-clause-asked : goal.lay_wires-total-requires-clause-asked
-lay_wires-total-requires-clause-asked c =
-    let t = c.requires.asked in
-    let f = c.fill-2 in
+pub lay_wires-total-requires-clause-entries : goal.lay_wires-total-requires-clause-entries
+lay_wires-total-requires-clause-entries c = (c.place_entries-entries.ensures.placed.exact c.if-entries-gt1024.false).0
+
+pub lay_wires-total-requires-clause-laid : goal.lay_wires-total-requires-clause-laid
+lay_wires-total-requires-clause-laid c =
     let e = c.enter_wires in
-    let w = e.ensures.0 in
-    let l = e.new.wires in
-    let long = e.auto.wires ∙ c.fill.auto.numbers ∙ t.6 in
-    let links = c.link_wires in
-    let k = links.new.wires in
-    let same = links.ensures.1 in
-    let taken = c.copied_words in
-    let whole = taken.auto.queue ∙ t.7 in
     let r = c.place_entries-entries in
-    let p = r.new.plan in
-    let o = c.if-entries-gt1024.false in
-    (planning_linked l t.0 w long k same taken.ensures p r.ensures.0 o, t.1, links.auto.wires ∙ long, taken.auto.copied ∙ length-replicate {A = ℕ} 3072 0, (r.ensures.0.exact o).0, r.auto.plan ∙ f.auto.numbers ∙ whole, laid_filled l t.0 w long p f.new.numbers r.ensures.0 o r.ensures.1 f.ensures whole)
+    laid_filled e.new.wires c.requires.timed e.ensures.entered e.array_long r.new.plan c.fill-2.new.self r.ensures.placed c.if-entries-gt1024.false r.ensures.late (c.fill-2.ensures.after (λ y q. q)) c.copied_words.array_long
 
-pub returns : goal.returns
-returns c =
-    let a = c.args in
+pub returns-then-entries-gt1024-clause-laid : goal.returns-then-entries-gt1024-clause-laid
+returns-then-entries-gt1024-clause-laid c = many_entries c.args.net.now.net _ c.place_entries-entries.new.plan c.place_entries-entries.ensures.placed c.if-entries-gt1024.true
+
+pub returns-else-entries-gt1024-clause-laid : goal.returns-else-entries-gt1024-clause-laid
+returns-else-entries-gt1024-clause-laid c =
     let o = c.if-entries-gt1024.false in
-    let r = c.lay_wires-total in
-    (plan_laid (net_of a.file.now a.net.now) _ r.new.plan (c.place_entries-entries.ensures.0.exact o).0 o r.ensures, refl)
+    plan_laid c.args.net.now.net _ c.lay_wires-total.new.plan (c.place_entries-entries.ensures.placed.exact o).0 o c.lay_wires-total.ensures

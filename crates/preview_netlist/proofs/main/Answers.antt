@@ -4,4 +4,4 @@ use Rattle.retiming.proofs.PreviewLaws.{fits_room}
 use Rattle.preview_netlist.proofs.main.Goals as goal
 
 pub print_list-requires : goal.print_list-requires
-print_list-requires c = omega (arith, fits_room _ _ (sym c.in-Fits.ensures.0), c.wide.ensures.0, c.preview_file.auto.list)
+print_list-requires c = omega (arith, fits_room _ _ (sym c.in-Fits.ensures.preview), c.preview_file.auto.list)

@@ -1,11 +1,8 @@
 -- Each walk notes so many at most.
 use mathlib.Core.Path.{◌≡◌}
-use Prim.Native.Nat.{◌+◌, ◌*◌, ◌-◌, ◌≤◌}
+use Prim.Native.Nat.{◌+◌, ◌*◌, ◌≤◌}
 use lib.ListN.{length}
 use Rattle.proposal.proofs.propose.Given as goal
 
 abbrev pub invariant-loop-root : goal.invariant-loop-root
-invariant-loop-root l = (length l.area ≡ length l.initial.area) × (l.root ≤ l.n) × (l.noted ≤ 1024 + 2048 * l.root)
-
-abbrev pub decreases-loop-root : goal.decreases-loop-root
-decreases-loop-root l = l.n - l.root
+invariant-loop-root l = (length l.area ≡ length l.initial.area) × (l.noted ≤ 1024 + 2048 * l.root)

@@ -8,4 +8,4 @@ use Rattle.punqelis.proofs.punqelis_preview.Goals as goal
 
 pub numbers-requires : goal.numbers-requires
 numbers-requires c =
-    subst (λ (r : Preview). LengthWithin 65535 (answer_of r)) (sym c.preview_file.ensures.0) (preview_within c.args.file.now c.args.list.now (λ i. omega (arith, c.type_inv.file i)))
+    subst (λ (r : Preview). LengthWithin 65535 (answer_of r)) (sym c.preview_file.ensures.preview) (preview_within c.args.file.now c.args.list.now (λ i. omega (arith, c.type_inv.file i)))

@@ -5,4 +5,4 @@ use Rattle.punqelis.specs.RunLaws.{reset_within}
 use Rattle.punqelis.proofs.punqelis_reset.Goals as goal
 
 pub code-requires : goal.code-requires
-code-requires c = subst (LengthWithin 65535) (sym c.reset_state.ensures.0) (reset_within c.args.file.now c.args.state.now)
+code-requires c = subst (LengthWithin 65535) (sym c.reset_state.ensures.answer) (reset_within c.args.file.now c.args.state.now)

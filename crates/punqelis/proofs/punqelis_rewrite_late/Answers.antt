@@ -6,4 +6,4 @@ use Rattle.punqelis.specs.RewriteLaws.{rewrite_within}
 use Rattle.punqelis.proofs.punqelis_rewrite_late.Goals as goal
 
 pub code-requires : goal.code-requires
-code-requires c = subst (LengthWithin 65535) (sym c.rewrite_late.ensures.0) (rewrite_within Late c.args.file.now c.args.out.now (λ i. omega (arith, c.type_inv.file i)))
+code-requires c = subst (LengthWithin 65535) (sym c.rewrite_late.ensures.answer) (rewrite_within Late c.args.file.now c.args.out.now (λ i. omega (arith, c.type_inv.file i)))

@@ -5,4 +5,4 @@ use Rattle.punqelis.specs.RunLaws.{run_within}
 use Rattle.punqelis.proofs.punqelis_run.Goals as goal
 
 pub code-requires : goal.code-requires
-code-requires c = subst (LengthWithin 65535) (sym c.run_clock.ensures.0) (run_within c.args.file.now c.args.state.now c.args.inputs.now c.args.outputs.now)
+code-requires c = subst (LengthWithin 65535) (sym c.run_clock.ensures.answer) (run_within c.args.file.now c.args.state.now c.args.inputs.now c.args.outputs.now)

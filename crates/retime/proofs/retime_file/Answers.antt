@@ -1,22 +1,31 @@
 -- What opening tells, and the retiming of the netlist.
+use mathlib.Core.Path.{sym, ap, subst, ◌∙◌}
 use native.Mathlib.Omega.{arith}
-use Rattle.netlist.specs.File.{decode, decoded_net}
+use Rattle.std.proofs.lemmas.Result.{err_from_is_err_and}
 use Rattle.codec.specs.Bytes.{Bytes}
-use Rattle.checks.specs.Opens.{opened-refused, opened_fine, open_formed, open_inside}
-use Rattle.retime.specs.Laying.{lays_none, file-refused, file-taken}
+use Rattle.circuit.specs.Shown.{Shown}
+use Rattle.netlist.specs.Checks.{WellFormed}
+use Rattle.evaluate.specs.Clock.{Inside}
+use Rattle.retiming.specs.Modes.{mode_verdict}
+use Rattle.checks.specs.Opens.{open_formed, open_inside}
+use Rattle.retime.proofs.LayingLaws.{file-refused, opened_verdict}
 use Rattle.retime.proofs.retime_file.Goals as goal
 
-pub retime_opened-requires-clause-asked : goal.retime_opened-requires-clause-asked
-retime_opened-requires-clause-asked c =
-    let o = opened_fine c.open_file.ensures c.in-Fine.is in
+pub returns-in_err-open_file-clause-verdict : goal.returns-in_err-open_file-clause-verdict
+returns-in_err-open_file-clause-verdict c =
+    let p = err_from_is_err_and c.from_residual.result c.from_residual.ensures.1 in
+    rw (p.1, p.2) (file-refused c.args.mode c.args.file.now c.in_err-open_file.ensures.err)
+
+pub retime_opened-requires-clause-formed : goal.retime_opened-requires-clause-formed
+retime_opened-requires-clause-formed c =
     let bytes : Bytes c.args.file.now = λ i. omega (arith, c.type_inv.file i) in
-    (open_formed bytes o, open_inside bytes o, o.ordered, c.requires)
+    subst (λ (h : Shown). WellFormed h.net) (sym c.finish-net.ensures) (open_formed bytes c.in_ok-open_file.ensures.ok)
 
-pub returns-in-Refuses : goal.returns-in-Refuses
-returns-in-Refuses c =
-    let a = c.args in
-    let s = a.file.now in
-    lays_none s _ a.mode (decoded_net (decode s)) (file-refused a.mode s (opened-refused c.open_file.ensures c.in-Refuses.is))
+pub retime_opened-requires-clause-inside : goal.retime_opened-requires-clause-inside
+retime_opened-requires-clause-inside c =
+    let bytes : Bytes c.args.file.now = λ i. omega (arith, c.type_inv.file i) in
+    subst (λ (h : Shown). Inside h.net) (sym c.finish-net.ensures) (open_inside bytes c.in_ok-open_file.ensures.ok)
 
-pub returns-in-Fine : goal.returns-in-Fine
-returns-in-Fine c = file-taken c.args.mode (opened_fine c.open_file.ensures c.in-Fine.is) c.retime_opened.ensures
+pub returns-clause-verdict : goal.returns-clause-verdict
+returns-clause-verdict c =
+    c.retime_opened.ensures.verdict ∙ ap (λ (h : Shown). mode_verdict c.args.mode h.net) c.finish-net.ensures ∙ opened_verdict c.args.mode c.in_ok-open_file.ensures.ok

@@ -1,36 +1,25 @@
 -- 11 and 12 by the leads, else onward.
 use mathlib.Core.Path.{◌∙◌}
-use Prim.Native.Nat.{ℕ}
-use lib.ListN.{length-replicate}
-use Rattle.circuit.specs.Circuit.{net_of}
-use Rattle.retime.specs.Laying.{lays_none, lays_as, by_debts, no_closed_debt, new_is, now_timed}
+use Rattle.std.proofs.lemmas.Result.{err_from_is_err_and}
+use Rattle.retime.proofs.LayingLaws.{debts_say, then_13, no_closed_debt, new_is, now_timed}
 use Rattle.retime.proofs.retime_opened.Goals as goal
 
-pub retime_timed-requires-clause-asked : goal.retime_timed-requires-clause-asked
-retime_timed-requires-clause-asked c =
-    let a = c.args in
-    let N = net_of a.file.now a.net.now in
-    let p = c.requires in
-    let l = c.find_leads in
-    let r = c.find_roots in
-    let fine = c.in-Fine.is in (
-      now_timed a.mode N p.asked.0 l.ensures.0 fine l.new.leads r.new.timing l.ensures.1 r.ensures.1 r.ensures.0,
-      r.auto.timing ∙ l.auto.leads ∙ length-replicate {A = ℕ} 3072 0,
-      p.asked.1,
-      p.asked.2,
-      p.asked.3,
-      new_is a.mode N p.asked.0 l.ensures.0 fine,
-      no_closed_debt a.mode N p.asked.0 l.ensures.0 fine,
-    )
+pub returns-in_err-find_leads-clause-verdict : goal.returns-in_err-find_leads-clause-verdict
+returns-in_err-find_leads-clause-verdict c =
+    let p = err_from_is_err_and c.from_residual.result c.from_residual.ensures.1 in
+    rw (p.1, p.2) (debts_say c.args.mode c.args.net.now.net c.in_err-find_leads.ensures.verdict)
 
-pub returns-in-Refuses : goal.returns-in-Refuses
-returns-in-Refuses c =
-    let a = c.args in
-    let N = net_of a.file.now a.net.now in
-    lays_none _ _ a.mode N (by_debts a.mode N c.find_leads.ensures.0 c.in-Refuses.is)
+pub retime_timed-requires-clause-timed : goal.retime_timed-requires-clause-timed
+retime_timed-requires-clause-timed c =
+    let told = c.in_ok-find_leads.ensures in
+    let roots = c.find_roots in
+    now_timed c.args.mode c.args.net.now.net told.verdict c.requires.formed c.find_leads.new.leads roots.new.timing told.leads roots.ensures.leads roots.ensures.traced
 
-pub returns-in-Fine : goal.returns-in-Fine
-returns-in-Fine c =
-    let a = c.args in
-    let N = net_of a.file.now a.net.now in
-    lays_as _ _ a.mode N (by_debts a.mode N c.find_leads.ensures.0 c.in-Fine.is) c.retime_timed.ensures
+pub retime_timed-requires-clause-new_is : goal.retime_timed-requires-clause-new_is
+retime_timed-requires-clause-new_is c = new_is c.args.mode c.args.net.now.net c.in_ok-find_leads.ensures.verdict c.requires.formed
+
+pub retime_timed-requires-clause-no_debt : goal.retime_timed-requires-clause-no_debt
+retime_timed-requires-clause-no_debt c = no_closed_debt c.args.mode c.args.net.now.net c.in_ok-find_leads.ensures.verdict c.requires.formed
+
+pub returns-clause-verdict : goal.returns-clause-verdict
+returns-clause-verdict c = c.retime_timed.ensures.verdict ∙ then_13 c.args.mode c.args.net.now.net c.in_ok-find_leads.ensures.verdict

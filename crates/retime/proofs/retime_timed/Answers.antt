@@ -1,13 +1,6 @@
--- 13, or laid, without what the mode leaves out.
-use Rattle.circuit.specs.Circuit.{net_of}
-use Rattle.retime.specs.Laying.{laid_has}
+-- Where 13 is not said, what is laid has its tables.
+use Rattle.retime.proofs.LayingLaws.{laid_has}
 use Rattle.retime.proofs.retime_timed.Goals as goal
 
-pub leave_out_tables-requires-clause-asked : goal.leave_out_tables-requires-clause-asked
-leave_out_tables-requires-clause-asked c =
-    let a = c.args in
-    let p = c.requires.asked in
-    let l = c.lay_timed in
-    let fine = c.in-Fine.is in
-    let laid = l.ensures.1 fine in
-    laid_has a.mode (net_of a.file.now a.net.now) p.5 a.file.now _ laid.0 p.0 l.ensures.0 fine
+pub leave_out_tables-requires : goal.leave_out_tables-requires
+leave_out_tables-requires c = laid_has c.args.mode c.args.net.now.net c.requires.new_is c.in_ok-draft.ensures.net c.requires.timed c.in_ok-draft.ensures.verdict

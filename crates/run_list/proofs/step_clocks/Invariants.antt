@@ -1,8 +1,7 @@
 -- The loop's invariant: i clocks are done.
 use mathlib.Core.Path.{◌≡◌}
-use Prim.Native.Nat.{◌*◌, ◌-◌, ◌≤◌}
+use Prim.Native.Nat.{◌*◌}
 use lib.ListN.{length}
-use Rattle.circuit.specs.Circuit.{net_of}
 use Rattle.behaviour.specs.Runs.{input_widths, output_widths}
 use Rattle.behaviour.specs.RunList.{row_bytes}
 use Rattle.stepping.specs.Clock.{state_in}
@@ -10,8 +9,5 @@ use Rattle.run_list.specs.Clocks.{Clocked}
 use Rattle.run_list.proofs.step_clocks.Given as goal
 
 abbrev pub invariant-loop-i : goal.invariant-loop-i
-invariant-loop-i l = (l.i ≤ l.clocks) × (l.from ≡ row_bytes (input_widths (net_of l.file l.net)) * l.i) × (l.to ≡ row_bytes (output_widths (net_of l.file l.net)) * l.i) × (length l.words ≡ length l.initial.words)
-    × Clocked (net_of l.file l.net) (state_in l.sizes l.initial.words) l.inputs l.initial.outputs l.i (state_in l.sizes l.words) l.outputs
-
-abbrev pub decreases-loop-i : goal.decreases-loop-i
-decreases-loop-i l = l.clocks - l.i
+invariant-loop-i l = (l.from ≡ row_bytes (input_widths l.net.net) * l._i) × (l.to ≡ row_bytes (output_widths l.net.net) * l._i) × (length l.words ≡ length l.initial.words)
+    × Clocked l.net.net (state_in l.sizes l.initial.words) l.inputs l.initial.outputs l._i (state_in l.sizes l.words) l.outputs

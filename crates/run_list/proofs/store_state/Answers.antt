@@ -12,7 +12,7 @@ use Rattle.lists.proofs.Sections.{section_listed}
 use Rattle.run_list.proofs.store_state.Goals as goal
 
 pub loop-j-init : goal.loop-j-init
-loop-j-init c = let p = c.requires in fill_none (p.1 ∙ ap (2 *◌) (sym (length-below c.args.sizes.held)))
+loop-j-init c = let p = c.requires in fill_none (p.room ∙ ap (2 *◌) (sym (length-below c.args.sizes.held)))
 
 pub loop-j-preserved : goal.loop-j-preserved
 loop-j-preserved c =
@@ -28,4 +28,4 @@ returns c =
     let a = c.args in
     let t = c.loop-j in
     let n : length (below a.sizes.held) ≡ a.sizes.held = length-below a.sizes.held in
-    fill_all t.invariant (omega (arith, t.invariant.low)) ∙ ap (λ (l : List ℕ). bytes_of l) (section_listed a.sizes.inputs a.sizes.held a.words.now c.requires.0)
+    fill_all t.invariant (omega (arith, t.invariant.low)) ∙ ap (λ (l : List ℕ). bytes_of l) (section_listed a.sizes.inputs a.sizes.held a.words.now c.requires.words)

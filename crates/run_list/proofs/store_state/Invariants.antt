@@ -1,5 +1,5 @@
 -- The loop's invariant: the first j words are written.
-use Prim.Native.Nat.{◌+◌, ◌-◌}
+use Prim.Native.Nat.{◌+◌}
 use lib.ListN.{get_or}
 use Rattle.lists.specs.Lists.{below}
 use Rattle.evaluate.specs.Filling.{Filling}
@@ -7,6 +7,3 @@ use Rattle.run_list.proofs.store_state.Given as goal
 
 abbrev pub invariant-loop-j : goal.invariant-loop-j
 invariant-loop-j l = Filling (λ k. get_or l.words (l.from + k) 0) (below l.held) l.initial.state l.state l.j
-
-abbrev pub decreases-loop-j : goal.decreases-loop-j
-decreases-loop-j l = l.held - l.j

@@ -1,7 +1,9 @@
--- By code and count.
-use native.Mathlib.Omega.{arith}
-use Rattle.saving.specs.Lengths.{node_length}
+-- By what the element holds, and how many sources it has.
+use Rattle.std.proofs.Common.{ap, ◌∙◌}
+use Rattle.saving.specs.Lengths.{own_length, node_length}
 use Rattle.saving.proofs.node_length.Goals as goal
 
-pub returns : goal.returns
-returns c = let a = c.args in let t = node_length a.file.now a.net.now a.v c.requires.asked c.code_of.ensures.0 c.source_count.ensures.0 in (omega (arith, c.own_length.ensures.0, t.0), omega (arith, c.own_length.ensures.0, t.1))
+pub returns-clause-length : goal.returns-clause-length
+returns-clause-length c =
+    let own = c.own_length.ensures.own ∙ ap own_length c.element.ensures in
+    (node_length _ _ _ c.parts-words.ensures.shown c.args.v c.requires own c.source_count.ensures.count).0

@@ -1,21 +1,21 @@
 use native.Mathlib.Omega.{arith}
-use Rattle.circuit.specs.Circuit.{net_of}
 use Rattle.saving.specs.Encoded.{carrying_none, carried, carrying_more, file-written}
 use Rattle.saving.proofs.write_circuit.Goals as goal
 
 pub loop-k-init : goal.loop-k-init
-loop-k-init c = let a = c.args in carrying_none (net_of a.file.now a.net.now)
+loop-k-init c = let a = c.args in carrying_none a.net.now.net
 
-pub put_field-at-requires-clause-asked : goal.put_field-at-requires-clause-asked
-put_field-at-requires-clause-asked c =
-    let a = c.args in
-    let t = c.loop-k.invariant in
-    (omega (arith, c.loop-k-test.true, c.field_count-fields.ensures.0), carried (net_of a.file.now a.net.now) t, omega (arith, c.requires.asked, t.kept))
+pub put_field-at-requires-clause-here : goal.put_field-at-requires-clause-here
+put_field-at-requires-clause-here c = carried c.args.net.now.net c.loop-k.invariant
 
 pub loop-k-preserved : goal.loop-k-preserved
 loop-k-preserved c =
-    let a = c.args in
-    carrying_more (net_of a.file.now a.net.now) c.loop-k.invariant (omega (arith, c.loop-k-test.true, c.field_count-fields.ensures.0)) c.put_field-at.auto.out c.put_field-at.ensures.0
+    carrying_more c.args.net.now.net c.loop-k.invariant (omega (arith, c.loop-k-test.true, c.field_count-fields.ensures.length)) c.put_field-at.auto.out c.put_field-at.ensures.put
 
 pub returns : goal.returns
-returns c = let a = c.args in file-written (net_of a.file.now a.net.now) c.loop-k.invariant (omega (arith, c.loop-k-test.false, c.field_count-fields.ensures.0))
+returns c =
+    let all = file-written c.args.net.now.net c.loop-k.invariant (omega (arith, c.loop-k-test.false, c.field_count-fields.ensures.length)) in
+    record {
+      length = all.0;
+      out = all.1;
+    }

@@ -5,48 +5,36 @@ use Rattle.schedule.specs.Places.{near_zeros}
 use Rattle.schedule.specs.Scheduling.{scheduled}
 use Rattle.schedule.proofs.lay_out.Goals as goal
 
-pub first_places-requires : goal.first_places-requires
-first_places-requires c =
-    let p = c.requires in
-    let r = c.list_nodes-sizes in
-    let few = few_lines r.ensures in (
-      omega (arith, p.circuit.few, few),
-      omega (arith, p.circuit.few, few, r.auto.nodes),
-      λ i h. omega (arith, p.circuit.few, lines_inside r.ensures p.asked.0 p.asked.2 i h),
-      near_zeros 1024,
-    )
+pub first_places-requires-clause-few : goal.first_places-requires-clause-few
+first_places-requires-clause-few c = omega (arith, c.requires.formed.fields.bounds.nodes, few_lines c.list_nodes-sizes.ensures)
 
-pub put_lines-requires-clause-asked : goal.put_lines-requires-clause-asked
-put_lines-requires-clause-asked c =
-    let p = c.requires in
-    let r = c.list_nodes-sizes in
-    let few = few_lines r.ensures in (
-      p.asked.1,
-      omega (arith, p.circuit.few, c.first_places.auto.places),
-      omega (arith, p.circuit.few, few),
-      omega (arith, p.circuit.few, few, r.auto.nodes),
-      lines_inside r.ensures p.asked.0 p.asked.2,
-      p.asked.3,
-    )
+pub first_places-requires-clause-known : goal.first_places-requires-clause-known
+first_places-requires-clause-known c = λ i h. omega (arith, c.requires.formed.fields.bounds.nodes, lines_inside c.list_nodes-sizes.ensures c.requires.formed c.requires.complete i h)
 
-pub put_ports-requires-clause-asked : goal.put_ports-requires-clause-asked
-put_ports-requires-clause-asked c =
-    let p = c.requires in
-    let r = c.list_nodes-sizes in
-    let few = few_outputs r.ensures in (
-      p.asked.1,
-      omega (arith, p.circuit.few, c.first_places.auto.places),
-      omega (arith, p.circuit.few, few),
-      omega (arith, p.circuit.few, few, few_lines r.ensures, r.auto.nodes),
-      ports_inside r.ensures,
-      omega (arith, p.asked.3, c.put_lines.auto.schedule),
-    )
+pub first_places-requires-clause-near : goal.first_places-requires-clause-near
+first_places-requires-clause-near c = near_zeros 1024
+
+pub put_lines-requires-clause-few : goal.put_lines-requires-clause-few
+put_lines-requires-clause-few c = omega (arith, c.requires.formed.fields.bounds.nodes, few_lines c.list_nodes-sizes.ensures)
+
+pub put_lines-requires-clause-known : goal.put_lines-requires-clause-known
+put_lines-requires-clause-known c = lines_inside c.list_nodes-sizes.ensures c.requires.formed c.requires.complete
+
+pub put_ports-requires-clause-few : goal.put_ports-requires-clause-few
+put_ports-requires-clause-few c = omega (arith, c.requires.formed.fields.bounds.nodes, few_outputs c.list_nodes-sizes.ensures)
+
+pub put_ports-requires-clause-nodes : goal.put_ports-requires-clause-nodes
+put_ports-requires-clause-nodes c =
+    let r = c.list_nodes-sizes.ensures in
+    omega (arith, c.requires.formed.fields.bounds.nodes, few_lines r, few_outputs r)
+
+pub put_ports-requires-clause-known : goal.put_ports-requires-clause-known
+put_ports-requires-clause-known c = ports_inside c.list_nodes-sizes.ensures
 
 pub returns : goal.returns
 returns c =
     let p = c.requires in
-    let r = c.list_nodes-sizes in
     let f = c.first_places in
     let l = c.put_lines in
-    scheduled p.asked.0 p.asked.1 p.asked.2 r.ensures (omega (arith, p.circuit.few, f.auto.places)) f.ensures
-    l.ensures (omega (arith, p.asked.3, l.auto.schedule)) c.put_ports.ensures
+    scheduled p.formed p.inside p.complete c.list_nodes-sizes.ensures (omega (arith, p.formed.fields.bounds.nodes)) f.ensures
+    l.ensures (omega (arith, p.schedule, l.auto.schedule)) c.put_ports.ensures

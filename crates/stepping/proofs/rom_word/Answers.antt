@@ -1,8 +1,7 @@
 -- Its table is there, and has a word at each address of so many bits.
+use mathlib.Core.Path.{refl}
 use Rattle.stepping.specs.StepLaws.{rom_line}
 use Rattle.stepping.proofs.rom_word.Goals as goal
 
 pub returns : goal.returns
-returns c =
-    let p = c.requires in
-    rom_line p.asked.0 p.asked.1 p.asked.2 c.part_of.ensures.0 c.part_of-2.ensures.0 c.wide.ensures.0 c.table_word.ensures
+returns c = rom_line c.requires.formed c.requires.line c.requires.rom c.part_of.ensures.part c.part_of-2.ensures.part refl c.table_word.ensures

@@ -1,28 +1,28 @@
 use mathlib.Core.Path.{sym}
 use Prim.Native.Nat.{ℕ, ◌≤◌, ◌<◌}
 use native.Mathlib.Omega.{arith}
-use Rattle.circuit.specs.Circuit.{net_of}
 use Rattle.schedule.specs.Lines.{InnerLine}
 use Rattle.stepping.specs.StepLaws.{line_fits, stepped_more}
 use Rattle.stepping.proofs.run_of.Goals as goal
 
-pub line_word-requires-clause-asked : goal.line_word-requires-clause-asked
-line_word-requires-clause-asked c =
-    let p = c.requires in
-    let t = c.loop-i in
-    let r = p.asked.1.lines t.i t.invariant.0 c.loop-i-test.true in
-    (p.asked.0, record { room = p.asked.1.room; few = omega (arith, p.asked.1.few); space = omega (arith, p.asked.1.space, t.invariant.2.kept); inner = r.0; fit = t.invariant.2.fit }, sym r.1)
+pub line_word-requires-clause-line : goal.line_word-requires-clause-line
+line_word-requires-clause-line g c =
+    let p = c.requires.run in
+    let t = c.loop-i.invariant in
+    record { room = p.room; few = omega (arith, p.few, c.loop-i-test.true); space = omega (arith, p.space, t.1.kept); inner = (p.lines c.loop-i.i t.0 c.loop-i-test.true).0; fit = t.1.fit }
+
+pub line_word-requires-clause-code : goal.line_word-requires-clause-code
+line_word-requires-clause-code g c = sym (c.requires.run.lines c.loop-i.i c.loop-i.invariant.0 c.loop-i-test.true).1
 
 pub loop-i-preserved : goal.loop-i-preserved
-loop-i-preserved c =
+loop-i-preserved g c =
     let a = c.args in
-    let p = c.requires in
+    let p = c.requires.run in
     let t = c.loop-i in
     let e = c.line_word.ensures in
     let y = c.loop-i-test.true in
-    let before : (j : ℕ) → a.from ≤ j → j < t.i → InnerLine (net_of a.file.now a.net.now) a.schedule.now j = λ j k l. (p.asked.1.lines j k (omega (arith, y))).0 in
-    let own = (p.asked.1.lines t.i t.invariant.0 y).0 in (
-      omega arith,
-      omega arith,
-      stepped_more t.invariant.2 before t.invariant.0 own (omega (arith, p.asked.1.few, p.asked.1.space, t.invariant.2.kept)) e (rw e (line_fits own t.words t.invariant.2.fit p.asked.0)),
+    let before : (j : ℕ) → a.from ≤ j → j < t.i → InnerLine a.net.now.net a.schedule.now j = λ j k l. (p.lines j k (omega (arith, y))).0 in
+    let own = (p.lines t.i t.invariant.0 y).0 in (
+      omega (arith, t.invariant.0),
+      stepped_more t.invariant.1 before t.invariant.0 own (omega (arith, p.few, p.space, t.invariant.1.kept, y)) e (rw e (line_fits own t.words t.invariant.1.fit c.requires.formed)),
     )

@@ -1,10 +1,6 @@
 -- The loop's invariant: the tables before m are numbered, and the marked ones of them counted.
-use Prim.Native.Nat.{◌-◌}
 use Rattle.trimming.specs.Numbers.{Numbering}
 use Rattle.trimming.proofs.number_tables.Given as goal
 
 abbrev pub invariant-loop-m : goal.invariant-loop-m
 invariant-loop-m l = Numbering l.marks l.numbers l.m l.count
-
-abbrev pub decreases-loop-m : goal.decreases-loop-m
-decreases-loop-m l = 16 - l.m

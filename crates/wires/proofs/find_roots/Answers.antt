@@ -7,4 +7,4 @@ pub loop-v-preserved : goal.loop-v-preserved
 loop-v-preserved c =
     let k = c.loop-v.invariant in
     let t = c.trace in
-    (t.auto.timing ∙ k.0, traced_next k.1 t.ensures.0 t.ensures.1, t.ensures.2 ∙ k.2)
+    (traced_next k.0 t.ensures.half t.ensures.more, t.ensures.leads ∙ k.1)

@@ -1,12 +1,7 @@
 use mathlib.Core.Path.{◌≡◌}
-use Prim.Native.Nat.{◌-◌}
-use lib.ListN.{length, take}
-use Rattle.circuit.specs.Circuit.{net_of}
+use lib.ListN.{take}
 use Rattle.wires.specs.Traced.{roots_in, passes_in, HalfTraced}
 use Rattle.wires.proofs.mark_all.Given as goal
 
 abbrev pub invariant-loop-v : goal.invariant-loop-v
-invariant-loop-v l = (length l.timing ≡ length l.initial.timing) × HalfTraced (net_of l.file l.net) (roots_in l.timing) (passes_in l.timing) l.v × (take 1024 l.timing ≡ take 1024 l.initial.timing)
-
-abbrev pub decreases-loop-v : goal.decreases-loop-v
-decreases-loop-v l = l.n - l.v
+invariant-loop-v l = HalfTraced l.net.net (roots_in l.timing) (passes_in l.timing) l.v × (take 1024 l.timing ≡ take 1024 l.initial.timing)

@@ -1,9 +1,10 @@
--- Both words of a node are put.
-use Rattle.wires.specs.TracedLaws.{put_both}
+-- Two sections of the area are written.
+use mathlib.Core.Path.{refl}
+use Rattle.wires.specs.TracedLaws.{both_put, leads_stay}
 use Rattle.wires.proofs.put_wire.Goals as goal
 
-pub returns : goal.returns
-returns c =
-    let s = c in
-    put_both s.args.timing.now c.write_at.new.numbers c.write_at-2.new.numbers s.args.v s.args.root s.args.through
-    s.requires.0 s.requires.1 c.write_at.ensures c.write_at-2.ensures
+pub returns-clause-written : goal.returns-clause-written
+returns-clause-written c = both_put _ _ _ _ _ _ c.requires c.told-timing refl refl
+
+pub returns-clause-leads : goal.returns-clause-leads
+returns-clause-leads c = leads_stay _ _ _ _ _ _ c.requires c.told-timing refl refl

@@ -6,5 +6,5 @@ use Rattle.wiring.proofs.asked_clock.Goals as goal
 pub returns-then-n-origin : goal.returns-then-n-origin
 returns-then-n-origin c = sym (asked_before c.if-n-origin.true)
 
-pub returns : goal.returns
-returns c = sym (asked-after c.if-n-origin.false)
+pub returns-else-n-origin : goal.returns-else-n-origin
+returns-else-n-origin c = sym (asked-after c.if-n-origin.false)

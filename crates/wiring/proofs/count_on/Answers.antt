@@ -1,32 +1,35 @@
 -- The formula, over what the work area holds.
-use mathlib.Core.Path.{◌∙◌}
+use mathlib.Core.Path.{◌≡◌, refl, ap, ◌∙◌}
 use native.Mathlib.Omega.{arith}
+use Rattle.std.specs.Prelude.{Bool, true, false}
+use mir.Val.{bool_byte}
+use Rattle.lists.specs.Lists.{one}
 use Rattle.wiring.specs.WiringLaws.{root_inside, counted, count_few, root-read, passed-read}
 use Rattle.wiring.proofs.count_on.Goals as goal
 
-pub clocked_rom-requires : goal.clocked_rom-requires
-clocked_rom-requires c =
-    let p = c.requires in
-    (p.circuit, root_inside p.asked.0 p.asked.3 (c.wide-u.ensures.0 ∙ c.read_at.ensures ∙ root-read p.asked.0 p.asked.3))
+pub is_clocked_rom-requires : goal.is_clocked_rom-requires
+is_clocked_rom-requires c = root_inside c.requires.timed c.requires.source (root-read c.requires.timed c.requires.source)
 
-pub read_at-requires-3 : goal.read_at-requires-3
-read_at-requires-3 c =
-    let p = c.requires in
-    omega (arith, p.circuit.few, p.asked.1, root_inside p.asked.0 p.asked.3 (c.wide-u.ensures.0 ∙ c.read_at.ensures ∙ root-read p.asked.0 p.asked.3))
+pub bounds-timing-u : goal.bounds-timing-u
+bounds-timing-u c = omega (arith, root_inside c.requires.timed c.requires.source (root-read c.requires.timed c.requires.source))
 
-pub memory_bit-requires : goal.memory_bit-requires
-memory_bit-requires c =
-    let p = c.requires in
-    (p.circuit, root_inside p.asked.0 p.asked.3 (c.wide-u.ensures.0 ∙ c.read_at.ensures ∙ root-read p.asked.0 p.asked.3))
+pub is_memory-requires : goal.is_memory-requires
+is_memory-requires c = root_inside c.requires.timed c.requires.source (root-read c.requires.timed c.requires.source)
 
-pub returns : goal.returns
-returns c =
-    let t = c.requires.asked in
-    let u = c.wide-u.ensures.0 ∙ c.read_at.ensures ∙ root-read t.0 t.3 in
-    let p = c.wide.ensures.0 ∙ c.read_at-2.ensures ∙ passed-read t.0 t.3 in
-    let o = c.clocked_rom.ensures.0 in
-    let l = c.wide-2.ensures.0 ∙ c.read_at-3.ensures in
-    let x = c.wide-3.ensures.0 ∙ c.read_at-4.ensures in
-    let m = c.memory_bit.ensures.0 in
-    let q = c.minus.ensures in
-    (omega (arith, c.minus-2.ensures, counted t.0 t.3 u t.2), omega (arith, c.minus-2.ensures, count_few t.0 t.3 u t.2))
+byte_one : (b : Bool) → bool_byte b ≡ one b
+byte_one true = refl
+byte_one false = refl
+
+pub returns-clause-count : goal.returns-clause-count
+returns-clause-count c =
+    let t = c.requires.timed in
+    let k = c.from.ensures ∙ byte_one _ ∙ ap one c.is_clocked_rom.ensures in
+    let m = c.from-2.ensures ∙ byte_one _ ∙ ap one c.is_memory.ensures in
+    omega (arith, passed-read t c.requires.source, counted t c.requires.source (root-read t c.requires.source) c.requires.reader)
+
+pub returns-clause-few : goal.returns-clause-few
+returns-clause-few c =
+    let t = c.requires.timed in
+    let k = c.from.ensures ∙ byte_one _ ∙ ap one c.is_clocked_rom.ensures in
+    let m = c.from-2.ensures ∙ byte_one _ ∙ ap one c.is_memory.ensures in
+    omega (arith, passed-read t c.requires.source, count_few t c.requires.source (root-read t c.requires.source) c.requires.reader)

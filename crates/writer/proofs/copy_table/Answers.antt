@@ -8,13 +8,11 @@ use Rattle.writer.proofs.copy_table.Goals as goal
 pub slice_bounds-put_bytes-end : goal.slice_bounds-put_bytes-end
 slice_bounds-put_bytes-end c =
     let a = c.args in
-    let p = c.requires in
     let b : Bytes a.file.now = λ i. omega (arith, c.type_inv.file i) in
-    omega (arith, p.0.inside, table-size a.file.now a.from p.0 b, c.table_length.ensures.0)
+    omega (arith, c.requires.table.inside, table-size a.file.now a.from c.requires.table b, c.table_length.ensures.length)
 
 pub returns : goal.returns
 returns c =
     let a = c.args in
-    let p = c.requires in
     let b : Bytes a.file.now = λ i. omega (arith, c.type_inv.file i) in
-    puts_as (table_copied a.file.now a.from p.0 b c.table_length.ensures.0) c.put_bytes.ensures
+    puts_as (table_copied a.file.now a.from c.requires.table b c.table_length.ensures.length) c.put_bytes.ensures

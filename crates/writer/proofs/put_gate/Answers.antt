@@ -36,8 +36,11 @@ put_byte-requires c = omega (arith, room (gate c.args.op c.args.width c.args.sou
 pub put_operation-after_op-requires-in_default : goal.put_operation-after_op-requires-in_default
 put_operation-after_op-requires-in_default c = omega (arith, room (gate c.args.op c.args.width c.args.sources) (search rules) refl)
 
-pub put_sources-requires : goal.put_sources-requires
-put_sources-requires c = (omega (arith, few_sources (Gate c.args.op), c.op_sources-n.ensures), omega (arith, room (gate c.args.op c.args.width c.args.sources) (search rules) refl, c.op_sources-n.ensures))
+pub put_sources-requires-clause-sources : goal.put_sources-requires-clause-sources
+put_sources-requires-clause-sources c = omega (arith, few_sources (Gate c.args.op), c.op_sources-n.ensures)
+
+pub put_sources-requires-clause-room : goal.put_sources-requires-clause-room
+put_sources-requires-clause-room c = omega (arith, room (gate c.args.op c.args.width c.args.sources) (search rules) refl, c.op_sources-n.ensures)
 
 pub returns-in-Constant : goal.returns-in-Constant
 returns-in-Constant c =

@@ -1,10 +1,7 @@
-use Prim.Native.Nat.{◌-◌, ◌*◌, ◌≤◌}
+use Prim.Native.Nat.{◌*◌}
 use Rattle.netlist.specs.NodeField.{source_bytes}
 use Rattle.writer.specs.Turn.{Turn}
 use Rattle.writer.proofs.put_sources.Given as goal
 
 abbrev pub invariant-loop-i : goal.invariant-loop-i
-invariant-loop-i l = Turn l.initial.out l.at (source_bytes l.i l.sources) (2 * l.i) l.next l.out × (l.i ≤ l.n)
-
-abbrev pub decreases-loop-i : goal.decreases-loop-i
-decreases-loop-i l = l.n - l.i
+invariant-loop-i l = Turn l.initial.out l.at (source_bytes l.i l.sources) (2 * l.i) l.next l.out

@@ -1,9 +1,6 @@
-use Prim.Native.Nat.{◌-◌, ◌≤◌}
+use Prim.Native.Nat.{◌≤◌}
 use Rattle.circuit.proofs.Keeping.{Keeping}
 use Rattle.circuit.proofs.renumber.keep_tables.Given as goal
 
 abbrev pub invariant-loop-k : goal.invariant-loop-k
-invariant-loop-k l = (l.k ≤ l.n) × (l.n ≤ 16) × Keeping l.marks l.initial.net l.k l.kept l.net
-
-abbrev pub decreases-loop-k : goal.decreases-loop-k
-decreases-loop-k l = l.n - l.k
+invariant-loop-k l = (l.n ≤ 16) × Keeping l.marks l.initial.net l.k l.kept l.net

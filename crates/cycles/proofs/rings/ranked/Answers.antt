@@ -1,10 +1,9 @@
 use native.Mathlib.Omega.{arith}
 use lib.ListN.{get_or}
-use Rattle.circuit.specs.Circuit.{net_of}
 use Rattle.cycles.specs.Falls.{falls_all}
 use Rattle.cycles.proofs.rings.ranked.Goals as goal
 
 pub returns : goal.returns
 returns c =
     let a = c.args in
-    λ e. falls_all (net_of a.file.now a.net.now) (λ u. get_or a.ranks.now u 0) (omega (arith, c.loop-v-test.false, c.node_count-n.ensures.0)) c.loop-v.invariant.1
+    λ e. falls_all a.net.now.net (λ u. get_or a.ranks.now u 0) (omega (arith, c.loop-v-test.false, c.node_count-n.ensures.count)) c.loop-v.invariant

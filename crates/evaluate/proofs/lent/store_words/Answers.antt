@@ -1,4 +1,4 @@
-use mathlib.Core.Path.{sym, subst}
+use mathlib.Core.Path.{refl, sym, subst}
 use mathlib.Core.List.{List}
 use Prim.Native.Nat.{ℕ, ◌+◌}
 use lib.ListN.{get_or}
@@ -8,5 +8,5 @@ use Rattle.evaluate.proofs.lent.store_words.Goals as goal
 pub loop-i-preserved : goal.loop-i-preserved
 loop-i-preserved c =
     let a = c.args in
-    let more = fill_put c.loop-i.invariant c.loop-i-test.true c.wide.ensures.0 c.read_at.result c.read_at.ensures in
+    let more = fill_put c.loop-i.invariant c.loop-i-test.true refl c.read_at.result c.read_at.ensures in
     subst (λ (l : List ℕ). Filling (λ u. get_or a.words.now u 0) a.members.now a.out.now l (c.loop-i.i + 1)) (sym c.put_word.ensures) more

@@ -5,14 +5,12 @@ use Rattle.layout.specs.PlannedNode.{node_by}
 use Rattle.layout.proofs.added.gate_row.Goals as goal
 
 pub returns-then-behind-eq0 : goal.returns-then-behind-eq0
-returns-then-behind-eq0 c = let p = c.requires.asked in
-    row_as c.constant_row.ensures ((node_by p.0 c.args.i p.3).one (omega (arith, c.if-behind-eq0.true, p.2)))
+returns-then-behind-eq0 c = let p = c.requires in row_as c.constant_row.ensures ((node_by p.planned c.args.i p.node).one (omega (arith, c.if-behind-eq0.true, p.behind)))
 
-pub returns-then-behind-made : goal.returns-then-behind-made
-returns-then-behind-made c = let p = c.requires.asked in
-    row_as c.register_row.ensures
-    ((node_by p.0 c.args.i p.3).link (omega (arith, c.if-behind-eq0.false, p.2)) (omega (arith, c.if-behind-made.true)))
+pub returns-then-behind-from : goal.returns-then-behind-from
+returns-then-behind-from c =
+    let p = c.requires in
+    row_as c.register_row.ensures ((node_by p.planned c.args.i p.node).link (omega (arith, c.if-behind-eq0.false, p.behind)) (omega (arith, c.if-behind-from.true)))
 
 pub returns : goal.returns
-returns c = let p = c.requires.asked in
-    row_as c.shown_row.ensures ((node_by p.0 c.args.i p.3).shown (omega (arith, c.if-behind-made.false)))
+returns c = let p = c.requires in row_as c.shown_row.ensures ((node_by p.planned c.args.i p.node).shown (omega (arith, c.if-behind-from.false)))

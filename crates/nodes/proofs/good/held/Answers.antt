@@ -6,13 +6,13 @@ use Rattle.lists.proofs.Paths.{off_eq}
 use Rattle.netlist.specs.NodeField.{extra}
 use Rattle.nodes.proofs.good.held.Goals as goal
 
-pub returns-in-0 : goal.returns-in-0
+pub returns-in-0-clause-held : goal.returns-in-0-clause-held
 unfolding pick
-returns-in-0 c = (sym (ap extra c.in-0.is), omega arith)
+returns-in-0-clause-held c = sym (ap extra c.in-0.is)
 
-pub returns-in-10 : goal.returns-in-10
+pub returns-in-10-clause-held : goal.returns-in-10-clause-held
 unfolding pick
-returns-in-10 c = (sym (ap extra c.in-10.is), omega arith)
+returns-in-10-clause-held c = sym (ap extra c.in-10.is)
 
-pub returns-in_default : goal.returns-in_default
-returns-in_default c = (off_eq _ _ _ _ (λ (h : c.args.op ≡ 0). omega arith) (off_eq _ _ _ _ (λ (h : c.args.op ≡ 10). omega arith) refl), omega arith)
+pub returns-in_default-clause-held : goal.returns-in_default-clause-held
+returns-in_default-clause-held c = off_eq _ _ _ _ (λ (h : c.args.op ≡ 0). omega arith) (off_eq _ _ _ _ (λ (h : c.args.op ≡ 10). omega arith) refl)

@@ -1,5 +1,7 @@
--- At each kind's number `kind_read` computes.
-use mathlib.Core.Path.{refl, sym, ap, ◌∙◌}
+-- The kind is the number, and at each number `kind_read` computes.
+use Rattle.netlist.specs.declared.Element.{Element}
+use Rattle.std.specs.Prelude.{Option}
+use mathlib.Core.Path.{refl, sym, ap, subst, ◌∙◌}
 use Prim.Native.Nat.{ℕ}
 use lib.ListN.{get_or}
 use native.Mathlib.Omega.{arith}
@@ -9,49 +11,50 @@ use Rattle.words.specs.Words.{word}
 use Rattle.netlist.specs.Net.{rom}
 use Rattle.netlist.specs.NodeField.{kind_read, node_with}
 use Rattle.netlist.specs.declared.Element.TheVariants.{Input, Output, Register, Async, Clocked}
-use Rattle.netlist.specs.declared.ElementRead.{ElementRead}
+use Rattle.nodes.specs.Kind.{Decodes, kind_number}
 use Rattle.nodes.specs.Good.{found}
 use Rattle.nodes.proofs.good.kind_good.Goals as goal
 
-pub returns-in-0 : goal.returns-in-0
+pub returns-in-Ok-Input : goal.returns-in-Ok-Input
 unfolding kind_read pick
-returns-in-0 c =
+returns-in-Ok-Input c =
     let s = c.args.s.now in
-    found s Input _ ∙ ap (λ (k : ℕ). (node_with s (kind_read k s)).good) (sym c.in-0.is)
+    found s Input _ ∙ ap (λ (k : ℕ). (node_with s (kind_read k s)).good) (ap kind_number (sym c.in-Ok-Input.field-0-is) ∙ subst (Decodes (get_or s 0 0)) c.in-Ok-Input.is c.try_from.ensures)
 
-pub returns-in-1 : goal.returns-in-1
+pub returns-in-Ok-Output : goal.returns-in-Ok-Output
 unfolding kind_read pick
-returns-in-1 c =
+returns-in-Ok-Output c =
     let s = c.args.s.now in
-    found s Output _ ∙ ap (λ (k : ℕ). (node_with s (kind_read k s)).good) (sym c.in-1.is)
+    found s Output _ ∙ ap (λ (k : ℕ). (node_with s (kind_read k s)).good) (ap kind_number (sym c.in-Ok-Output.field-0-is) ∙ subst (Decodes (get_or s 0 0)) c.in-Ok-Output.is c.try_from.ensures)
 
-pub returns-in-2 : goal.returns-in-2
+pub returns-in-Ok-Register : goal.returns-in-Ok-Register
 unfolding kind_read pick
-returns-in-2 c =
+returns-in-Ok-Register c =
     let s = c.args.s.now in
-    c.reset_good.ensures (Register (word s 4)) ∙ ap (λ (k : ℕ). (node_with s (kind_read k s)).good) (sym c.in-2.is)
+    c.reset_good.ensures (Register (word s 4)) ∙ ap (λ (k : ℕ). (node_with s (kind_read k s)).good) (ap kind_number (sym c.in-Ok-Register.field-0-is) ∙ subst (Decodes (get_or s 0 0)) c.in-Ok-Register.is c.try_from.ensures)
 
-pub returns-in-3 : goal.returns-in-3
+pub returns-in-Ok-Async : goal.returns-in-Ok-Async
 unfolding kind_read pick
-returns-in-3 c =
+returns-in-Ok-Async c =
     let s = c.args.s.now in
-    found s (Async (rom (get_or s 4 0))) _ ∙ ap (λ (k : ℕ). (node_with s (kind_read k s)).good) (sym c.in-3.is)
+    found s (Async (rom (get_or s 4 0))) _ ∙ ap (λ (k : ℕ). (node_with s (kind_read k s)).good) (ap kind_number (sym c.in-Ok-Async.field-0-is) ∙ subst (Decodes (get_or s 0 0)) c.in-Ok-Async.is c.try_from.ensures)
 
-pub returns-in-4 : goal.returns-in-4
+pub returns-in-Ok-Clocked : goal.returns-in-Ok-Clocked
 unfolding kind_read pick
-returns-in-4 c =
+returns-in-Ok-Clocked c =
     let s = c.args.s.now in
-    c.reset_good-in-4.ensures (Clocked (rom (get_or s 4 0)) (word s 5)) ∙ ap (λ (k : ℕ). (node_with s (kind_read k s)).good) (sym c.in-4.is)
+    c.reset_good-in-Ok-Clocked.ensures (Clocked (rom (get_or s 4 0)) (word s 5)) ∙ ap (λ (k : ℕ). (node_with s (kind_read k s)).good) (ap kind_number (sym c.in-Ok-Clocked.field-0-is) ∙ subst (Decodes (get_or s 0 0)) c.in-Ok-Clocked.is c.try_from.ensures)
 
-pub returns-in-5 : goal.returns-in-5
+pub returns-in-Ok-Gate : goal.returns-in-Ok-Gate
 unfolding kind_read pick
-returns-in-5 c =
+returns-in-Ok-Gate c =
     let s = c.args.s.now in
-    c.op_good.ensures ∙ ap (λ (k : ℕ). (node_with s (kind_read k s)).good) (sym c.in-5.is)
+    c.op_good.ensures ∙ ap (λ (k : ℕ). (node_with s (kind_read k s)).good) (ap kind_number (sym c.in-Ok-Gate.field-0-is) ∙ subst (Decodes (get_or s 0 0)) c.in-Ok-Gate.is c.try_from.ensures)
 
-pub returns-in_default : goal.returns-in_default
+pub returns-in-Err : goal.returns-in-Err
 unfolding kind_read
-returns-in_default c =
+returns-in-Err c =
     let s = c.args.s.now in
-    ap (λ (r : ElementRead). (node_with s r).good)
-    (off_eq _ _ _ _ (λ h. omega arith) (off_eq _ _ _ _ (λ h. omega arith) (off_eq _ _ _ _ (λ h. omega arith) (off_eq _ _ _ _ (λ h. omega arith) (off_eq _ _ _ _ (λ h. omega arith) (off_eq _ _ _ _ (λ h. omega arith) refl))))))
+    let past = subst (Decodes (get_or s 0 0)) c.in-Err.is c.try_from.ensures in
+    ap (λ (r : Option Element). (node_with s r).good)
+    (off_eq _ _ _ _ (λ h. omega (arith, past)) (off_eq _ _ _ _ (λ h. omega (arith, past)) (off_eq _ _ _ _ (λ h. omega (arith, past)) (off_eq _ _ _ _ (λ h. omega (arith, past)) (off_eq _ _ _ _ (λ h. omega (arith, past)) (off_eq _ _ _ _ (λ h. omega (arith, past)) refl))))))

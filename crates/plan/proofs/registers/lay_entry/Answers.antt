@@ -1,62 +1,60 @@
 -- The loop's invariant: the wires to the first p operands are laid. After it there are none up to the next entry.
-use mathlib.Core.Path.{◌≡◌, refl, ap, subst, ◌∙◌}
+use mathlib.Core.Path.{◌≡◌, refl, sym, ap, subst, ◌∙◌}
 use Prim.Native.Nat.{ℕ, ◌+◌, ◌*◌, ◌<◌}
 use native.Mathlib.Omega.{arith}
 use Rattle.netlist.specs.Net.{element_at, operands}
-use Rattle.circuit.specs.Circuit.{net_of}
-use Rattle.retiming.specs.Modes.{mode_timing}
 use Rattle.plan.specs.Registers.{entry_count}
+use Rattle.plan.specs.Retiming.{net_of, timing_of}
 use Rattle.plan.specs.OperandAt.{owner_is}
-use Rattle.plan.specs.RegistersLaws.{laid_at, owner_same, owner_inside, laid-rest, planning_as, laid_over, laid_stop}
+use Rattle.plan.specs.RegistersLaws.{laid_at, owner_same, owner_inside, laid-rest, planning_as, laid_over, wire_read}
 use Rattle.plan.proofs.registers.lay_entry.Goals as goal
 
-pub source_count-n-requires : goal.source_count-n-requires
-source_count-n-requires c =
-    let a = c.args in
-    let N = net_of a.file.now a.net.now in
-    let t = c.requires.asked in
-    let h : a.e < entry_count N (mode_timing a.made.mode N) = omega (arith, t.5, t.7) in
-    (c.requires.circuit, owner_inside N _ h t.8 (owner_is N _ h a.plan.now t.0.few (c.wide-x.ensures.0 ∙ c.read_at.ensures)))
+pub source_count-p-end-requires : goal.source_count-p-end-requires
+source_count-p-end-requires c =
+    let q = c.requires in
+    let r = c.args.from.now in
+    let h : c.args.e < entry_count (net_of r) (timing_of r) = omega (arith, q.entries, q.entry) in
+    owner_inside (net_of r) _ h q.laid (owner_is (net_of r) _ h c.args.plan.now q.planned.few refl)
 
 pub loop-p-init : goal.loop-p-init
-loop-p-init c =
-    (omega arith, refl, refl, laid_at (let z : 3 * c.args.e ≡ 3 * c.args.e + 0 = omega arith in z) c.requires.asked.8)
+loop-p-init c = record { firsts = refl; laid = laid_at (let z : 3 * c.args.e ≡ 3 * c.args.e + 0 = omega arith in z) c.requires.laid }
 
-pub returns-then-total-gt1024 : goal.returns-then-total-gt1024
-returns-then-total-gt1024 c =
-    let a = c.args in
-    let N = net_of a.file.now a.net.now in
-    let t = c.requires.asked in
-    let h : a.e < entry_count N (mode_timing a.made.mode N) = omega (arith, t.5, t.7) in
-    let i = c.loop-p.invariant in
-    let z = laid_stop N _ i.3 (3 * a.e + 3) (omega (arith, i.0, c.source_count-n.ensures.1)) c.if-total-gt1024.true in
-    (z.0, z.1, i.2)
+pub returns-then-total-gt1024-clause-exact : goal.returns-then-total-gt1024-clause-exact
+returns-then-total-gt1024-clause-exact c = λ g. absurd (omega (arith, c.if-total-gt1024.true))
 
-pub lay_wire-total-requires-clause-asked : goal.lay_wire-total-requires-clause-asked
-lay_wire-total-requires-clause-asked c =
-    let a = c.args in
-    let N = net_of a.file.now a.net.now in
-    let t = c.requires.asked in
-    let h : a.e < entry_count N (mode_timing a.made.mode N) = omega (arith, t.5, t.7) in
+pub returns-then-total-gt1024-clause-over : goal.returns-then-total-gt1024-clause-over
+returns-then-total-gt1024-clause-over c = laid_over (net_of c.args.from.now) _ c.loop-p.invariant.laid (omega (arith, c.requires.entries, c.requires.entry, c.loop-p-test.true, c.source_count-p-end.ensures.few))
+
+pub lay_wire-total-requires-clause-planned : goal.lay_wire-total-requires-clause-planned
+lay_wire-total-requires-clause-planned c = planning_as c.loop-p.invariant.firsts c.requires.planned
+
+pub lay_wire-total-requires-clause-wire : goal.lay_wire-total-requires-clause-wire
+lay_wire-total-requires-clause-wire c =
+    let q = c.requires in
+    let r = c.args.from.now in
+    let h : c.args.e < entry_count (net_of r) (timing_of r) = omega (arith, q.entries, q.entry) in
     let i = c.loop-p.invariant in
-    (planning_as i.2 t.0, t.1, t.2, t.3, i.1 ∙ t.4, t.5, omega (arith, c.if-total-gt1024.false), t.7, subst (λ (v : ℕ). c.loop-p.p < operands (element_at N v)) (owner_is N _ h a.plan.now t.0.few (c.wide-x.ensures.0 ∙ c.read_at.ensures) ∙ owner_same N _ h t.8 i.3) (omega (arith, c.source_count-n.ensures.0, c.loop-p-test.true)), i.3)
+    let owner = owner_is (net_of r) _ h c.args.plan.now q.planned.few refl ∙ owner_same (net_of r) _ h q.laid i.laid in
+    let there = subst (λ (v : ℕ). c.loop-p.p < operands (element_at (net_of r) v)) owner (omega (arith, c.source_count-p-end.ensures.count, c.loop-p-test.true)) in
+    wire_read r.wires.now c.loop-p.plan (planning_as i.firsts q.planned) i.laid q.entries q.entry there (owner ∙ sym (owner_is (net_of r) _ h c.loop-p.plan q.planned.few refl))
 
 pub loop-p-preserved : goal.loop-p-preserved
 loop-p-preserved c =
     let e : ℕ = c.args.e in
     let p : ℕ = c.loop-p.p in
-    let i = c.loop-p.invariant in
-    let r = c.lay_wire-total in
-    (omega (arith, c.loop-p-test.true), r.auto.plan ∙ i.1, r.ensures.2 ∙ i.2, laid_at (let z : 3 * e + p + 1 ≡ 3 * e + (p + 1) = omega arith in z) r.ensures.0)
+    let r = c.lay_wire-total.ensures in
+    record { firsts = r.firsts ∙ c.loop-p.invariant.firsts; laid = laid_at (let z : 3 * e + p + 1 ≡ 3 * e + (p + 1) = omega arith in z) r.laid }
 
-pub returns : goal.returns
-returns c =
-    let a = c.args in
-    let N = net_of a.file.now a.net.now in
-    let t = c.requires.asked in
-    let h : a.e < entry_count N (mode_timing a.made.mode N) = omega (arith, t.5, t.7) in
-    let i = c.loop-p.invariant in
-    let n = c.source_count-n in
-    let z : c.loop-p.p ≡ n.result = omega (arith, i.0, c.loop-p-test.false) in
-    let done = laid-rest N _ h (z ∙ n.ensures.0 ∙ ap (λ (v : ℕ). operands (element_at N v)) (owner_is N _ h a.plan.now t.0.few (c.wide-x.ensures.0 ∙ c.read_at.ensures) ∙ owner_same N _ h t.8 i.3)) i.3 in
-    (λ g. done, laid_over N _ done (omega arith), i.2)
+pub returns-clause-exact : goal.returns-clause-exact
+returns-clause-exact c =
+    let q = c.requires in
+    let r = c.args.from.now in
+    let h : c.args.e < entry_count (net_of r) (timing_of r) = omega (arith, q.entries, q.entry) in
+    let i = c.loop-p.invariant.laid in
+    let n = c.source_count-p-end in
+    let z : c.loop-p.p ≡ n.result = omega (arith, c.loop-p-test.false) in
+    let owner = owner_is (net_of r) _ h c.args.plan.now q.planned.few refl ∙ owner_same (net_of r) _ h q.laid i in
+    λ g. laid-rest (net_of r) _ h (z ∙ n.ensures.count ∙ ap (λ (v : ℕ). operands (element_at (net_of r) v)) owner) i
+
+pub returns-clause-over : goal.returns-clause-over
+returns-clause-over c = laid_over (net_of c.args.from.now) _ c.loop-p.invariant.laid (omega (arith, c.requires.entries, c.requires.entry, c.source_count-p-end.ensures.few))

@@ -1,14 +1,11 @@
 use mathlib.Core.Path.{◌≡◌}
-use Prim.Native.Nat.{◌+◌, ◌-◌, ◌*◌, ◌≤◌}
-use lib.ListN.{length}
-use Rattle.circuit.specs.Circuit.{net_of}
-use Rattle.retiming.specs.Modes.{mode_timing}
-use Rattle.plan.specs.Areas.{owners_in, words_in, late_in, firsts_in, sources_in}
-use Rattle.plan.specs.Registers.{Laid}
+use Prim.Native.Nat.{◌+◌, ◌*◌}
+use Rattle.plan.specs.Areas.{firsts_in}
+use Rattle.plan.specs.Retiming.{LaysTo}
 use Rattle.plan.proofs.registers.lay_entry.Given as goal
 
 abbrev pub invariant-loop-p : goal.invariant-loop-p
-invariant-loop-p l = (l.p ≤ l.n) × (length l.plan ≡ length l.initial.plan) × (firsts_in l.plan ≡ firsts_in l.initial.plan) × Laid (net_of l.file l.net) (mode_timing l.mode (net_of l.file l.net)) (owners_in l.plan) (words_in l.plan) (late_in l.plan) (sources_in l.plan) (3 * l.e + l.p) l.total
-
-abbrev pub decreases-loop-p : goal.decreases-loop-p
-decreases-loop-p l = l.n - l.p
+invariant-loop-p l = record {
+  firsts : firsts_in l.plan ≡ firsts_in l.initial.plan;
+  laid : LaysTo l.from l.plan (3 * l.e + l.p) l.total;
+}

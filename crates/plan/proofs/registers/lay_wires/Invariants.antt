@@ -1,16 +1,12 @@
 use mathlib.Core.Path.{◌≡◌}
-use Prim.Native.Nat.{◌-◌, ◌*◌, ◌≤◌, ◌<◌}
-use lib.ListN.{length}
-use Rattle.circuit.specs.Circuit.{net_of}
-use Rattle.retiming.specs.Modes.{mode_timing}
-use Rattle.plan.specs.Areas.{owners_in, words_in, late_in, firsts_in, sources_in}
-use Rattle.plan.specs.Registers.{Laid, AllLaid}
+use Prim.Native.Nat.{◌*◌, ◌≤◌, ◌<◌}
+use Rattle.plan.specs.Areas.{firsts_in}
+use Rattle.plan.specs.Retiming.{LaysTo, LaysAll}
 use Rattle.plan.proofs.registers.lay_wires.Given as goal
 
 abbrev pub invariant-loop-e : goal.invariant-loop-e
-invariant-loop-e l = (l.e ≤ l.entries) × (length l.plan ≡ length l.initial.plan) × (firsts_in l.plan ≡ firsts_in l.initial.plan)
-    × (l.total ≤ 1024 → Laid (net_of l.file l.net) (mode_timing l.mode (net_of l.file l.net)) (owners_in l.plan) (words_in l.plan) (late_in l.plan) (sources_in l.plan) (3 * l.e) l.total)
-    × (1024 < l.total → AllLaid (net_of l.file l.net) (mode_timing l.mode (net_of l.file l.net)) (owners_in l.plan) (words_in l.plan) (late_in l.plan) (sources_in l.plan) l.total)
-
-abbrev pub decreases-loop-e : goal.decreases-loop-e
-decreases-loop-e l = l.entries - l.e
+invariant-loop-e l = record {
+  firsts : firsts_in l.plan ≡ firsts_in l.initial.plan;
+  exact : l.total ≤ 1024 → LaysTo l.from l.plan (3 * l.e) l.total;
+  over : 1024 < l.total → LaysAll l.from l.plan l.total;
+}

@@ -1,5 +1,6 @@
 -- Where the number and the table stand in the file, by the code.
 use mathlib.Core.Path.{refl, sym, ap, ◌∙◌}
+use Prim.Native.Nat.{◌+◌}
 use native.Mathlib.Omega.{arith}
 use Rattle.words.specs.declared.Op.TheVariants.{Constant, Part}
 use Rattle.circuit.specs.Code.{number_or, table_or}
@@ -11,90 +12,90 @@ word_at-requires c =
     let s = c.args.file.now in
     let at = c.args.at in
     let p = c.requires in
-    let e = file.kind_by s at p.0 2 (omega arith) (sym c.in-2.is ∙ p.1) in
-    omega (arith, p.0.inside, file.register_long s at p.0 2 e refl)
+    let e = file.kind_by s at p.node 2 (omega arith) (sym c.in-2.is ∙ p.code) in
+    omega (arith, p.node.inside, file.register_long s at p.node 2 e refl)
 
 pub bounds-file-at : goal.bounds-file-at
 bounds-file-at c =
     let s = c.args.file.now in
     let at = c.args.at in
     let p = c.requires in
-    let e = file.kind_by s at p.0 3 (omega arith) (sym c.in-3.is ∙ p.1) in
-    omega (arith, p.0.inside, file.async_long s at p.0 3 e refl)
+    let e = file.kind_by s at p.node 3 (omega arith) (sym c.in-3.is ∙ p.code) in
+    omega (arith, p.node.inside, file.async_long s at p.node 3 e refl)
 
 pub word_at-requires-in-4 : goal.word_at-requires-in-4
 word_at-requires-in-4 c =
     let s = c.args.file.now in
     let at = c.args.at in
     let p = c.requires in
-    let e = file.kind_by s at p.0 4 (omega arith) (sym c.in-4.is ∙ p.1) in
-    omega (arith, p.0.inside, file.clocked_long s at p.0 4 e refl)
+    let e = file.kind_by s at p.node 4 (omega arith) (sym c.in-4.is ∙ p.code) in
+    omega (arith, p.node.inside, file.clocked_long s at p.node 4 e refl)
 
 pub bounds-file-at-in-4 : goal.bounds-file-at-in-4
 bounds-file-at-in-4 c =
     let s = c.args.file.now in
     let at = c.args.at in
     let p = c.requires in
-    let e = file.kind_by s at p.0 4 (omega arith) (sym c.in-4.is ∙ p.1) in
-    omega (arith, p.0.inside, file.clocked_long s at p.0 4 e refl)
+    let e = file.kind_by s at p.node 4 (omega arith) (sym c.in-4.is ∙ p.code) in
+    omega (arith, p.node.inside, file.clocked_long s at p.node 4 e refl)
 
 pub word_at-requires-in-8 : goal.word_at-requires-in-8
 word_at-requires-in-8 c =
     let s = c.args.file.now in
     let at = c.args.at in
     let p = c.requires in
-    let e = file.gate_by s at p.0 0 (sym c.in-8.is ∙ p.1) in
-    omega (arith, p.0.inside, file.constant_long s at p.0 e.0 e.1)
+    let e = file.gate_by s at p.node 0 (sym c.in-8.is ∙ p.code) in
+    omega (arith, p.node.inside, file.constant_long s at p.node e.0 e.1)
 
 pub bounds-file-at-in-18 : goal.bounds-file-at-in-18
 bounds-file-at-in-18 c =
     let s = c.args.file.now in
     let at = c.args.at in
     let p = c.requires in
-    let e = file.gate_by s at p.0 10 (sym c.in-18.is ∙ p.1) in
-    omega (arith, p.0.inside, file.part_long s at p.0 e.0 e.1)
+    let e = file.gate_by s at p.node 10 (sym c.in-18.is ∙ p.code) in
+    omega (arith, p.node.inside, file.part_long s at p.node e.0 e.1)
 
 pub returns-in-2 : goal.returns-in-2
 returns-in-2 c =
     let s = c.args.file.now in
     let at = c.args.at in
     let p = c.requires in
-    let e = file.kind_by s at p.0 2 (omega arith) (sym c.in-2.is ∙ p.1) in
-    let x = file.register_at s at p.0 e _ c.word_at.ensures in
-    (ap (number_or 0) x, ap (table_or 0) x, omega arith, λ q. absurd (omega (arith, q, p.1, c.in-2.is)))
+    let e = file.kind_by s at p.node 2 (omega arith) (sym c.in-2.is ∙ p.code) in
+    let x = file.register_at s at p.node e _ c.word_at.ensures in
+    (ap (number_or 0) x, ap (table_or 0) x, omega arith, λ q. absurd (omega (arith, q, p.code, c.in-2.is)))
 
 pub returns-in-3 : goal.returns-in-3
 returns-in-3 c =
     let s = c.args.file.now in
     let at = c.args.at in
     let p = c.requires in
-    let e = file.kind_by s at p.0 3 (omega arith) (sym c.in-3.is ∙ p.1) in
-    let x = file.async_at s at p.0 e in
-    (ap (number_or 0) x, c.byte_word.ensures.0 ∙ ap (table_or 0) x, c.byte_word.ensures.1, λ q. absurd (omega (arith, q, p.1, c.in-3.is)))
+    let e = file.kind_by s at p.node 3 (omega arith) (sym c.in-3.is ∙ p.code) in
+    let x = file.async_at s at p.node e in
+    (ap (number_or 0) x, ap (table_or 0) x, omega (arith, c.type_inv.file (c.args.at + 7)), λ q. absurd (omega (arith, q, p.code, c.in-3.is)))
 
 pub returns-in-4 : goal.returns-in-4
 returns-in-4 c =
     let s = c.args.file.now in
     let at = c.args.at in
     let p = c.requires in
-    let e = file.kind_by s at p.0 4 (omega arith) (sym c.in-4.is ∙ p.1) in
-    let x = file.clocked_at s at p.0 e _ c.word_at-in-4.ensures in
-    (ap (number_or 0) x, c.byte_word-in-4.ensures.0 ∙ ap (table_or 0) x, c.byte_word-in-4.ensures.1, λ q. absurd (omega (arith, q, p.1, c.in-4.is)))
+    let e = file.kind_by s at p.node 4 (omega arith) (sym c.in-4.is ∙ p.code) in
+    let x = file.clocked_at s at p.node e _ c.word_at-in-4.ensures in
+    (ap (number_or 0) x, ap (table_or 0) x, omega (arith, c.type_inv.file (c.args.at + 7)), λ q. absurd (omega (arith, q, p.code, c.in-4.is)))
 
 pub returns-in-8 : goal.returns-in-8
 returns-in-8 c =
     let s = c.args.file.now in
     let at = c.args.at in
     let p = c.requires in
-    let e = file.gate_by s at p.0 0 (sym c.in-8.is ∙ p.1) in
-    let x = file.gate_at s at p.0 e.0 (Constant _) (file.constant_at s at p.0 e.0 e.1 _ c.word_at-in-8.ensures) in
-    (ap (number_or 0) x, ap (table_or 0) x, omega arith, λ q. absurd (omega (arith, q, p.1, c.in-8.is)))
+    let e = file.gate_by s at p.node 0 (sym c.in-8.is ∙ p.code) in
+    let x = file.gate_at s at p.node e.0 (Constant _) (file.constant_at s at p.node e.0 e.1 _ c.word_at-in-8.ensures) in
+    (ap (number_or 0) x, ap (table_or 0) x, omega arith, λ q. absurd (omega (arith, q, p.code, c.in-8.is)))
 
 pub returns-in-18 : goal.returns-in-18
 returns-in-18 c =
     let s = c.args.file.now in
     let at = c.args.at in
     let p = c.requires in
-    let e = file.gate_by s at p.0 10 (sym c.in-18.is ∙ p.1) in
-    let x = file.gate_at s at p.0 e.0 (Part _) (file.part_at s at p.0 e.0 e.1) in
-    (c.byte_word-in-18.ensures.0 ∙ ap (number_or 0) x, ap (table_or 0) x, omega arith, λ q. c.byte_word-in-18.ensures.1)
+    let e = file.gate_by s at p.node 10 (sym c.in-18.is ∙ p.code) in
+    let x = file.gate_at s at p.node e.0 (Part _) (file.part_at s at p.node e.0 e.1) in
+    (ap (number_or 0) x, ap (table_or 0) x, omega arith, λ q. omega (arith, c.type_inv.file (c.args.at + 8)))

@@ -10,4 +10,4 @@ use Rattle.reader.proofs.tables.word_count.Goals as goal
 pub returns : goal.returns
 returns c =
     let e = shl_exact {a = 1} 1 c.args.bits 64 (lit< tt) (omega arith) ∙ one-mul (2 ^ c.args.bits) in
-    (e, omega (arith, e, pow_mono {i = c.args.bits} {j = 10} c.requires))
+    record { count = e; few = omega (arith, e, pow_mono {i = c.args.bits} {j = 10} c.requires) }

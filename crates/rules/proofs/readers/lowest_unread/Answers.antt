@@ -1,20 +1,18 @@
-use mathlib.Core.Path.{◌≡◌, sym, ◌∙◌}
+use mathlib.Core.Path.{sym, ◌∙◌}
 use native.Mathlib.Omega.{arith}
 use Rattle.lists.proofs.SearchLaws.{lowest_here, lowest_past}
 use Rattle.netlist.specs.Net.{size}
 use Rattle.netlist.specs.Verdict.{unread}
-use Rattle.circuit.specs.Circuit.{net_of}
 use Rattle.rules.proofs.readers.lowest_unread.Goals as goal
 
 pub returns-then-not_read : goal.returns-then-not_read
 returns-then-not_read c =
     let a = c.args in
-    let N = net_of a.file.now a.net.now in
-    lowest_here (size N) (unread N) c.loop-v.v c.loop-v.invariant.1 (omega (arith, c.node_count-n.ensures.0, c.loop-v-test.true)) (sym c.not_read.ensures ∙ c.if-not_read.true)
+    let N = a.net.now.net in
+    lowest_here (size N) (unread N) c.loop-v.v c.loop-v.invariant (omega (arith, c.node_count-n.ensures.count, c.loop-v-test.true)) (sym c.not_read.ensures ∙ c.if-not_read.true)
 
 pub returns : goal.returns
 returns c =
     let a = c.args in
-    let N = net_of a.file.now a.net.now in
-    let k : c.loop-v.v ≡ size N = omega (arith, c.node_count-n.ensures.0, c.loop-v-test.false) in
-    k ∙ lowest_past (size N) (unread N) (λ u h. c.loop-v.invariant.1 u (omega arith))
+    let N = a.net.now.net in
+    c.node_count-n.ensures.count ∙ lowest_past (size N) (unread N) (λ u h. c.loop-v.invariant u (omega (arith, h, c.node_count-n.ensures.count, c.loop-v-test.false)))

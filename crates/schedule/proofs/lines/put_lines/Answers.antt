@@ -6,6 +6,4 @@ use Rattle.schedule.proofs.lines.put_lines.Goals as goal
 pub loop-i-preserved : goal.loop-i-preserved
 loop-i-preserved c =
     let t = c.loop-i in
-    let w = c.wide in
-    let r = c.put_line in
-    (omega arith, r.auto.schedule ∙ t.invariant.1, laid_more t.invariant.2 (omega arith) (omega arith) (rw w.ensures.0 at r.ensures))
+    (c.put_line.auto.schedule ∙ t.invariant.0, laid_more t.invariant.1 (omega arith) (omega arith) c.put_line.ensures)

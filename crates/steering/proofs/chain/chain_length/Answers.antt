@@ -1,8 +1,5 @@
-use mathlib.Core.Path.{◌≡◌, ap, ◌∙◌}
-use Prim.Native.Nat.{ℕ}
-use native.Mathlib.Omega.{arith}
+use Rattle.std.proofs.Common.{ℕ, ap, ◌∙◌, arith}
 use Rattle.lists.specs.Lists.{largest}
-use Rattle.circuit.specs.Circuit.{net_of}
 use Rattle.behaviour.specs.Run.{zero_word}
 use Rattle.retiming.specs.Gates.{steers_of}
 use Rattle.retiming.specs.Modes.{mode_timing}
@@ -11,17 +8,12 @@ use Rattle.steering.proofs.chain.chain_length.Goals as goal
 
 pub loop-x-preserved : goal.loop-x-preserved
 loop-x-preserved c =
-    let a = c.args in
-    let N = net_of a.file.now a.net.now in
-    let i = c.loop-x.invariant in
-    let s = c.steers_of.ensures in
-    let r = c.larger-most.ensures in
-    (omega (arith, c.loop-x-test.true), largest-more (steers_of N (mode_timing a.mode N) (zero_word N)) c.loop-x.x i.1 s.0 r, omega (arith, r, i.2, s.1))
+    let N = c.args.net.now.net in
+    let most = c.loop-x.invariant.most in
+    record { most = largest-more (steers_of N (mode_timing c.args.mode N) (zero_word N)) c.loop-x.x most c.steers_of.ensures.steers c.max-most.ensures; few = omega arith }
 
-pub returns : goal.returns
-returns c =
-    let a = c.args in
-    let N = net_of a.file.now a.net.now in
-    let i = c.loop-x.invariant in
-    let e : c.loop-x.x ≡ c.node_count-n.result = omega (arith, i.0, c.loop-x-test.false) in
-    (i.1 ∙ ap (λ (k : ℕ). largest k (steers_of N (mode_timing a.mode N) (zero_word N))) (e ∙ c.node_count-n.ensures.0) ∙ chain_is N (mode_timing a.mode N), i.2)
+pub returns-clause-chain : goal.returns-clause-chain
+returns-clause-chain c =
+    let N = c.args.net.now.net in
+    let f = mode_timing c.args.mode N in
+    c.loop-x.invariant.most ∙ ap (λ (k : ℕ). largest k (steers_of N f (zero_word N))) (omega (arith, c.loop-x-test.false, c.node_count-n.ensures.count)) ∙ chain_is N f

@@ -1,7 +1,7 @@
 -- Linked, or past a wire without a clock.
 use mathlib.Core.Path.{refl, ap, ◌∙◌}
 use mathlib.Core.List.{List}
-use Prim.Native.Nat.{ℕ, ◌+◌, ◌<◌}
+use Prim.Native.Nat.{ℕ, ◌+◌}
 use native.Mathlib.Omega.{arith}
 use lib.ListN.{get_or, set}
 use Rattle.lists.proofs.Sections.{section-read}
@@ -9,18 +9,18 @@ use Rattle.wiring.specs.Wiring.{ends_in}
 use Rattle.wiring.specs.Links.{linked_past, linked_put, ends_kept}
 use Rattle.wiring.proofs.links.link.Goals as goal
 
-pub returns-then-read_at-lt65535 : goal.returns-then-read_at-lt65535
-returns-then-read_at-lt65535 c =
-    let a = c.args in
-    let t = c.requires in
-    let u = c.wide-u.ensures.0 ∙ c.read_at-then-read_at-lt65535.ensures in
-    let v : ℕ = c.wide-u.result in
-    let on : get_or a.wires.now (6144 + a.k) 0 < 65535 = omega (arith, c.if-read_at-lt65535.true, c.read_at.ensures) in
-    let p = c.put_number.ensures ∙ ap (λ (l : List ℕ). set l (9216 + v) a.k) (c.write_at.ensures ∙ ap (set a.wires.now (6144 + a.k)) c.number_at.ensures) in
-    (linked_put a.wires.now t.0 t.1 t.2 u p on, ends_kept a.wires.now t.0 t.1 t.2 u p)
+pub returns-then-wires-k-lt-NONE-clause-linked : goal.returns-then-wires-k-lt-NONE-clause-linked
+returns-then-wires-k-lt-NONE-clause-linked c =
+    let w : List ℕ = c.args.wires.now in
+    let k : ℕ = c.args.k in
+    linked_put w c.requires.count c.requires.wire c.told-wires refl (c.put.ensures ∙ ap (λ (x : ℕ). set (set w (6144 + k) x) (9216 + get_or w (0 + k) 0) k) c.at_or.ensures) c.if-wires-k-lt-NONE.true
 
-pub returns-else-read_at-lt65535 : goal.returns-else-read_at-lt65535
-returns-else-read_at-lt65535 c =
-    let a = c.args in
-    let t = c.requires in
-    (λ clocks s. linked_past (ends_in a.wires.now) clocks a.count t.1 s (omega (arith, section-read 6144 3072 a.wires.now a.k (omega (arith, t.0, t.1)), c.read_at.ensures, c.if-read_at-lt65535.false)), refl)
+pub returns-then-wires-k-lt-NONE-clause-ends : goal.returns-then-wires-k-lt-NONE-clause-ends
+returns-then-wires-k-lt-NONE-clause-ends c =
+    let w : List ℕ = c.args.wires.now in
+    let k : ℕ = c.args.k in
+    ends_kept w c.requires.count c.requires.wire c.told-wires refl (c.put.ensures ∙ ap (λ (x : ℕ). set (set w (6144 + k) x) (9216 + get_or w (0 + k) 0) k) c.at_or.ensures)
+
+pub returns-else-wires-k-lt-NONE-clause-linked : goal.returns-else-wires-k-lt-NONE-clause-linked
+returns-else-wires-k-lt-NONE-clause-linked c =
+    λ clocks s. linked_past (ends_in c.args.wires.now) clocks c.args.count c.requires.wire s (omega (arith, section-read 6144 3072 c.args.wires.now c.args.k (omega arith), c.if-wires-k-lt-NONE.false))

@@ -15,12 +15,12 @@ loop-k-preserved c =
     let l : List ℕ = c.loop-k.wires in
     let n = c.link.new.wires in
     let e : k ≡ k - 1 + 1 = omega (arith, c.loop-k-test.true) in
-    let more = c.link.ensures.0 (clocks_in a.wires.now) (subst (λ (y : List ℕ). LinkedFrom y (clocks_in a.wires.now) a.count (heads_in l) (clocks_in l) (k - 1 + 1)) (sym i.3) (subst (LinkedFrom (ends_in a.wires.now) (clocks_in a.wires.now) a.count (heads_in l) (clocks_in l)) e i.2)) in
-    (omega (arith, i.0), c.link.auto.wires ∙ i.1, subst (λ (y : List ℕ). LinkedFrom y (clocks_in a.wires.now) a.count (heads_in n) (clocks_in n) (k - 1)) i.3 more, c.link.ensures.1 ∙ i.3)
+    let more = c.link.ensures.linked (clocks_in a.wires.now) (subst (λ (y : List ℕ). LinkedFrom y (clocks_in a.wires.now) a.count (heads_in l) (clocks_in l) (k - 1 + 1)) (sym i.1) (subst (LinkedFrom (ends_in a.wires.now) (clocks_in a.wires.now) a.count (heads_in l) (clocks_in l)) e i.0)) in
+    (subst (λ (y : List ℕ). LinkedFrom y (clocks_in a.wires.now) a.count (heads_in n) (clocks_in n) (k - 1)) i.1 more, c.link.ensures.ends ∙ i.1)
 
-pub returns : goal.returns
-returns c =
+pub returns-clause-linked : goal.returns-clause-linked
+returns-clause-linked c =
     let a = c.args in
     let l : List ℕ = c.loop-k.wires in
     let e : c.loop-k.k ≡ 0 = omega (arith, c.loop-k-test.false) in
-    (subst (LinkedFrom (ends_in a.wires.now) (clocks_in a.wires.now) a.count (heads_in l) (clocks_in l)) e c.loop-k.invariant.2, c.loop-k.invariant.3)
+    subst (LinkedFrom (ends_in a.wires.now) (clocks_in a.wires.now) a.count (heads_in l) (clocks_in l)) e c.loop-k.invariant.0
