@@ -121,7 +121,7 @@ fn spread_by(
 }
 
 // The search: from each node in turn rounds spread its mark until it comes back, which ends the search, or a round over all nodes changes nothing.
-// (A `loop`: how many rounds there are, their marks tell.)
+// (A `loop`: how many rounds there are, their marks tell. The scan is left from inside by its label, as the scope wants it.)
 fn lowest_on_cycle(net: &Netlist, steps: Steps, hint: &[u16]) -> usize
     requires sourced { Sourced net.now.net }
     requires hint { 1024 ≤ length hint.now }

@@ -10,7 +10,7 @@ use areas::read_at;
 use circuit::Netlist;
 use words::{fits_width, put_word, word_at};
 
-// Whether node v has a word in a row.
+// Whether node v has a word in a row. (A `match` on the row: a test for each, and a closure would be no plainer.)
 pub fn in_row(net: &Netlist, row: Row, v: usize) -> bool
     requires { v < size net.now.net }
     ensures { result ≡ row_test row net.now.net v }

@@ -11,7 +11,7 @@ ghost use Rattle.evaluate.specs.Rows.{row_test, RowFits};
 ghost use Rattle.evaluate.specs.Clock.{loaded, node_word, Inside, OperandsFit, Evaluated};
 ghost use Rattle.evaluate.specs.Next.{next_word, WordsFit};
 
-use areas::{at_or, put};
+use areas::at_or;
 use circuit::Netlist;
 use circuit::codes::{ASYNC_ROM, CONSTANT, GATE, OUTPUT, PART};
 use gates::gate;
@@ -88,7 +88,7 @@ fn node_word(net: &Netlist, v: usize, words: &[u16]) -> u16
     }
 }
 
-// Evaluates all nodes of a clock in the circuit's order, in which each comes after what it reads. What was loaded stays.
+// Evaluates all nodes of a clock in the circuit's order, in which each comes after what it reads. What was loaded stays. (Words are a slice: there may be more.)
 pub fn evaluate(net: &Netlist, words: &mut [u16])
     requires formed { WellFormed net.now.net }
     requires inside { Inside net.now.net }
@@ -115,7 +115,7 @@ fn evaluate_all(net: Netlist, words: &mut [u16])
     for i in 0..net.node_count() {
         let v = net.turn(i);
         if !is_loaded(&net, v) {
-            put(words, v, node_word(&net, v, words));
+            words[v] = node_word(&net, v, words);
         }
     }
 }

@@ -52,7 +52,7 @@ fn load_reset(net: &Netlist, words: &mut [u16])
     }
 }
 
-// The words of the first clock.
+// The words of the first clock. (A slice: there may be more.)
 pub fn first_clock(net: &Netlist, words: &mut [u16])
     requires formed { WellFormed net.now.net }
     requires inside { Inside net.now.net }
@@ -171,7 +171,7 @@ fn take_later(net: &Netlist, start: &[u16; 1024], queue: &[u16], limit: usize, f
 }
 
 // Takes all words that are wanted, from the words of the first clock on. Place k wants the word of node wanted[k] at clock clocks[k], or none where that is NEVER or more.
-// The queue is a work area.
+// The queue is a work area, and a slice: it is lent as a part of a longer one.
 pub fn first_words(
     net: &Netlist,
     timing: &[u16; TIMING],

@@ -163,6 +163,7 @@ fn check_ports(net: &Netlist, leads: &[u16; NODES]) -> Result<(), Refusal>
 
 // Finds the leads of a netlist, or says 11 or 12; nothing is then said of the numbers left in the work area.
 // The circuit's order is a hint, best an evaluation order of the nodes: it saves time, and any numbers will do.
+// (A slice: it may be longer, where an array would ask for just so many words.)
 pub fn find_leads(net: &Netlist, mode: Mode, leads: &mut [u16]) -> Result<(), Refusal>
     requires sourced { Sourced net.now.net }
     requires room { 1024 ≤ length leads.old }

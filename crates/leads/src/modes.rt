@@ -22,6 +22,7 @@ fn may_end(net: &Netlist, mode: Mode, v: usize) -> bool
     requires { v < size net.now.net }
     ensures { result ≡ mode_ends mode net.now.net v }
 {
+    // (A `match` on the mode: it decides a number or a test, and a closure would be no plainer.)
     match mode {
         Mode::Plain => true,
         Mode::Late => net.is_output(v),
@@ -54,6 +55,7 @@ fn timed(net: &Netlist, mode: Mode, base: u16, v: usize, number: u16) -> u16
     requires found { number ≡ lead_to net.now.net (mode_ends mode net.now.net) v }
     ensures { result ≡ (mode_timing mode net.now.net).lead v }
 {
+    // (As above.)
     match mode {
         Mode::Plain => number - base,
         Mode::Late => { if net.is_input(v) { base } else { number } }

@@ -11,6 +11,7 @@ use std::io;
 use streams::read_full;
 use words::word_at;
 
+// A program's lines, each by one `println!`.
 fn print_size(rt: &impl Print, size: Size) -> io::Result<()> {
     let Size {
         clocked,

@@ -77,7 +77,7 @@ fn lay_timed<'f, 'n>(
     Ok(lay_circuit(net, steered, &plan, &words, new))
 }
 
-// Leaves out the tables that no node of the new netlist reads. The plain mode has none such.
+// Leaves out the tables that no node of the new netlist reads. The plain mode has none such. (A `match` on the mode, here and below: a closure would be no plainer.)
 fn leave_out_tables(mode: Mode, draft: &mut Draft)
     requires { HasTables draft.old.net }
     ensures file { draft.new.file ≡ draft.old.file }

@@ -54,7 +54,7 @@ pub fn part_of(schedule: &[u16], i: usize, j: usize) -> usize
     schedule[8 * i + j] as usize
 }
 
-// Lays the work of a clock out: once for a netlist, however many clocks it is stepped.
+// Lays the work of a clock out: once for a netlist, however many clocks it is stepped. (A slice: it may be longer, where an array would ask for just so many words.)
 pub fn lay_out(net: &Netlist, schedule: &mut [u16]) -> Sizes
     requires formed { WellFormed net.now.net }
     requires inside { Inside net.now.net }

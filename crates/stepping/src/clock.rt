@@ -23,7 +23,7 @@ pub const WORDS: usize = 3072;
 
 const NEXT: usize = 2048;
 
-// Puts the words of a lent row at the places from one on.
+// Puts the words of a lent row at the places from one on. (The words are a slice, of any length that has room.)
 pub fn put_row(bytes: &[u8], from: usize, words: &mut [u16])
     requires { from + length bytes.now / 2 ≤ length words.old }
     ensures { Put from (length bytes.now / 2) (λ j. word bytes.now (2 * j)) words.old words.new }
@@ -102,7 +102,7 @@ fn keep_next(sizes: Sizes, words: &mut [u16])
     }
 }
 
-// One clock over a schedule.
+// One clock over a schedule. (Slices, as of `step_lines`.)
 pub fn clock(
     net: &Netlist,
     schedule: &[u16],

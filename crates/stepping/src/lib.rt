@@ -122,7 +122,7 @@ fn step_run(net: &Netlist, schedule: &[u16], from: usize, to: usize, words: &mut
     }
 }
 
-// All lines behind those that are loaded, run by run.
+// All lines behind those that are loaded, run by run. (Schedule and words are slices: they may be longer, where an array would ask for just so many words.)
 pub fn step_lines(net: &Netlist, schedule: &[u16], sizes: Sizes, words: &mut [u16])
     requires formed { WellFormed net.now.net }
     requires scheduled { Scheduled net.now.net schedule.now sizes }

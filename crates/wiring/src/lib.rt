@@ -26,7 +26,7 @@ pub const WIRES: usize = 10240;
 // Stands where there is nothing: no wire, no ROM to ask a clock of, no first wire.
 pub const NONE: u16 = 65535;
 
-// From where a mode's leads are counted.
+// From where a mode's leads are counted. (A `match` on the mode, here and below: it decides a number or a test, and a closure would be no plainer.)
 pub fn origin_of(net: &Netlist, mode: Mode) -> usize
     ensures origin { result ≡ (mode_timing mode net.now.net).origin }
     ensures few { result ≤ 1026 }
@@ -72,6 +72,7 @@ pub fn count_on(net: &Netlist, mode: Mode, timing: &[u16; TIMING], x: usize, s: 
 {
     net.bounds();
     let u = timing[ROOTS + s] as usize;
+    // Kinds as summands: they follow no pattern, so there is no branch on them.
     let before = timing[PASSES + s] as usize
         + usize::from(net.is_clocked_rom(u))
         + timing[u] as usize;
