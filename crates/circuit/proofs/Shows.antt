@@ -1,4 +1,4 @@
--- What a draft shows after a step. Assumes nothing.
+-- What the words of a circuit show after a step. Assumes nothing.
 use Rattle.std.specs.Prelude.{◌≡◌, Bool, List, map, ℕ, ◌<◌, ltb}
 use Rattle.std.proofs.Math.Path.{ap}
 use Rattle.std.proofs.Common.{sym, subst, ◌∙◌, arith}

@@ -2,21 +2,19 @@
 #![tactic(auto)]
 
 pub mod codes;
-mod draft;
 mod opened;
 pub mod renumber;
 mod rows;
 mod tables;
 
-ghost use Rattle.std.specs.Prelude.{◌≡◌, ◌+◌, ◌*◌, ◌^◌, ◌<◌, ◌≤◌, length, get_or, set, eqb};
+ghost use Rattle.std.specs.Prelude.{◌≡◌, ◌+◌, ◌*◌, ◌^◌, ◌<◌, ◌≤◌, [], length, get_or, set, eqb};
 ghost use Rattle.netlist.specs.Net.{no_table, spelled, size, element_at, width_at, source, operands, count_of};
 ghost use Rattle.netlist.specs.ScanLaws.{TableAt};
 ghost use Rattle.netlist.specs.File.{table_in};
 ghost use Rattle.circuit.specs.Code.{code_of, number_or, table_or};
-ghost use Rattle.circuit.specs.Circuit.{field, row_node, nodes_of, tables_of, order_of, net_of, Fits, Formed, Circuit};
-ghost use Rattle.circuit.specs.Building.{Pushed};
+ghost use Rattle.circuit.specs.Circuit.{circuit_words, field, row_node, nodes_of, tables_of, order_of, net_of, Fits, Formed, Circuit};
+ghost use Rattle.circuit.specs.Building.{Built, Pushed};
 
-pub use draft::Draft;
 pub use opened::Netlist;
 use tables::word_in;
 
@@ -143,10 +141,10 @@ fn order_of(file: &[u8], net: &[u16], i: usize) -> usize
 }
 
 // Writes place i of the order: the circuit shows the same netlist.
-fn put_order(file: &[u8], net: &mut [u16], i: usize, x: u16)
+pub fn put_order(file: &[u8], net: &mut [u16], i: usize, x: u16)
     requires circuit { Circuit file.now net.old }
-    requires asked { let N = net_of file.now net.old in i < size N }
-    ensures net { let N = net_of file.now net.old in net_of file.now net.new ≡ N }
+    requires node { i < size (net_of file.now net.old) }
+    ensures net { net_of file.now net.new ≡ net_of file.now net.old }
     ensures circuit { Circuit file.now net.new }
     ensures order { order_of net.new ≡ set (order_of net.old) i x }
 {
@@ -218,6 +216,20 @@ fn table_word(file: &[u8], net: &[u16], k: usize, a: usize) -> u16
     ensures { result ≡ get_or (spelled (get_or (net_of file.now net.now).tables k no_table)) a 0 }
 {
     word_in(file, table_place(file, net, k), a)
+}
+
+// The head of a circuit with no node, and the tables of another, at the same places of the file.
+pub fn copy_head(file: &[u8], net: &[u16], new: &mut [u16])
+    requires circuit { Circuit file.now net.now }
+    requires room { circuit_words ≤ length new.old }
+    ensures { Built (tables_of net.now) [] new.new }
+{
+    let n = table_count(file, net);
+    new[0] = 0;
+    new[1] = n as u16;
+    for t in 0..n {
+        new[2 + t] = net[2 + t];
+    }
 }
 
 // Puts node v after the v nodes that the circuit shows.

@@ -10,4 +10,4 @@ pub returns-clause-circuit : goal.returns-clause-circuit
 returns-clause-circuit c = let a = c.args in let t = c.requires.circuit in circuit_same a.file.now a.net.now t a.i a.x
 
 pub returns-clause-order : goal.returns-clause-order
-returns-clause-order c = let a = c.args in let t = c.requires.circuit in order_put a.net.now t.formed a.i a.x (omega (arith, c.requires.asked, size_is a.file.now a.net.now))
+returns-clause-order c = let a = c.args in let t = c.requires.circuit in order_put a.net.now t.formed a.i a.x (omega (arith, c.requires.node, size_is a.file.now a.net.now))
