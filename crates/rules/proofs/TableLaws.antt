@@ -1,7 +1,7 @@
 -- Check 17, over plain values. Assumes nothing.
 use mathlib.Core.Path.{◌≡◌, refl, sym, ap, subst, ◌∙◌}
 use mathlib.Core.Logic.{◌⊎◌, inl, inr, ⊎_elim}
-use mathlib.Core.Bool.{Bool, true, false, not, cond, ◌||◌}
+use mathlib.Core.Bool.{Bool, true, false, not, cond, ◌&&◌, ◌||◌}
 use mathlib.Core.List.{List}
 use Prim.Native.Nat.{ℕ, zero, suc, ◌+◌, ◌-◌, ◌≤◌, ◌<◌}
 use native.Mathlib.Omega.{arith}
@@ -13,12 +13,32 @@ use borrow.Author.Tests.{ne_eqb}
 use Rattle.lists.specs.Lists.{any_below, one, count_below}
 use Rattle.lists.proofs.BelowLaws.{true_or_false, lt_or_le, eqb-true, eqb_self, eqb_differ, any_below_intro, any_below_elim, bit_true, bit_false, one_le}
 use Rattle.lists.proofs.SearchLaws.{count_same, count_one_more, count_less}
-use Rattle.netlist.specs.Net.{Net, size, element_at}
-use Rattle.netlist.specs.Checks.{HasTables}
-use Rattle.netlist.proofs.Memories.{own-table, reads_only}
+use Rattle.netlist.specs.Net.{Table, Net, size, element_at, is_async, is_clocked, is_memory, table_of}
+use Rattle.netlist.specs.Checks.{HasTable, HasTables}
+use Rattle.netlist.proofs.Memories.{memory_kinds, own-table, reads_only}
 use Rattle.netlist.specs.Verdict.{reads_table, table_in_use, unread_table}
+use Rattle.netlist.specs.declared.Element.{Element}
+use Rattle.circuit.specs.Code.{table_or}
+use Rattle.circuit.proofs.CodeLaws.{rom-table}
 use Rattle.rules.specs.TableMarks.{Unmarked, TableMarks}
 use Rattle.rules.proofs.ReaderLaws.{mark_at, one_of}
+
+module _ (e : Element) {a b : ℕ} (p : a ≡ one (is_async e)) (q : b ≡ one (is_clocked e)) where
+  kinds : a + b ≡ one (is_memory e)
+  kinds = omega (arith, memory_kinds e)
+
+  -- a ROM reads its table
+  pub rom_reads : a + b ≡ 1 → {k : ℕ} → k ≡ table_or k e → (m : ℕ) → eqb k m ≡ reads_table e m
+  rom_reads s t m =
+      let rom = bit_true (is_memory e) (sym kinds ∙ s) in
+      ap (λ (j : ℕ). eqb j m) (rom-table e rom t) ∙ sym (ap (λ (x : Bool). x && eqb (table_of e) m) rom)
+
+  pub rom_small : a + b ≡ 1 → {k : ℕ} → k ≡ table_or k e → (ts : List Table) → HasTable ts e → length ts ≤ 16 → k ≤ 16
+  rom_small s t ts there few = let rom = bit_true (is_memory e) (sym kinds ∙ s) in omega (arith, rom-table e rom t, own-table ts e there rom)
+
+  -- no other node reads one
+  pub none_reads : (a + b ≡ 1 → ⊥) → (m : ℕ) → m < 16 → eqb 16 m ≡ reads_table e m
+  none_reads d m h = ne_eqb 16 m (λ z. omega arith) ∙ sym (ap (λ (x : Bool). x && eqb (table_of e) m) (bit_false (is_memory e) (λ s. d (kinds ∙ s))))
 
 -- one of the first x nodes reads table m
 abbrev read_before : Net → ℕ → ℕ → Bool
