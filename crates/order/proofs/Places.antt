@@ -1,19 +1,40 @@
 -- A try at one node, over plain values. Assumes nothing.
-use mathlib.Core.Path.{◌≡◌, sym, ap, subst, ◌∙◌}
-use mathlib.Core.Bool.{true}
+use mathlib.Core.Path.{◌≡◌, refl, sym, ap, subst, ◌∙◌}
+use mathlib.Core.Bool.{true, false}
 use mathlib.Core.Logic.{⊎_elim}
 use mathlib.Core.List.{List}
 use Prim.Native.Nat.{ℕ, suc, ◌+◌, ◌≤◌, ◌<◌}
+use native.Mathlib.Nat.{le_refl}
 use native.Mathlib.Omega.{arith}
 use lib.ListN.{length, get_or, set, replicate, length-set, length-replicate}
 use lib.Seq.{get_or-set_same, get_or-set_other}
 use borrow.Author.Tests.{le-ltb}
+use Rattle.lists.specs.Lists.{one}
 use Rattle.lists.proofs.BelowLaws.{lt-suc_split}
 use Rattle.lists.proofs.Sections.{section_replicate, section-length, section-read, section-put, section_before, section-after, last_read, last_put}
-use Rattle.netlist.specs.Net.{Class, Net, size, Sourced}
-use Rattle.order.specs.Pass.{Waiting, once_more}
-use Rattle.order.specs.Order.{flags_in, order_in, Placed, ready, PlacedOnce, Outcome}
+use Rattle.netlist.specs.Net.{Class, Net, size, operands, within_clock, is_register, is_clocked, Sourced}
+use Rattle.netlist.specs.declared.Element.{Element}
+use Rattle.netlist.specs.declared.Element.TheVariants.{Input, Output, Register, Async, Clocked, Gate}
+use Rattle.order.specs.Pass.{Waiting, once_more, swept_rest}
+use Rattle.order.specs.Order.{flags_in, order_in, Placed, ready, PlacedOnce, PlacedPass, Outcome}
 use Rattle.order.specs.OrderLaws.{room, placed_none, placed_more, outcome, outcome_as}
+
+-- the steps within the clock: all, but for what holds a word
+pub passes_on : (e : Element) → one (is_register e) + one (is_clocked e) ≡ 0 → operands e ≡ within_clock e
+passes_on Input h = refl
+passes_on Output h = refl
+passes_on (Register r) h = absurd (omega arith)
+passes_on (Async m) h = refl
+passes_on (Clocked m r) h = absurd (omega arith)
+passes_on (Gate o) h = refl
+
+pub passes_nothing : (e : Element) → (one (is_register e) + one (is_clocked e) ≡ 0 → ⊥) → 0 ≡ within_clock e
+passes_nothing Input h = refl
+passes_nothing Output h = absurd (h refl)
+passes_nothing (Register r) h = refl
+passes_nothing (Async m) h = absurd (h refl)
+passes_nothing (Clocked m r) h = refl
+passes_nothing (Gate o) h = absurd (h refl)
 
 -- ---- the sections of the area
 
@@ -53,11 +74,22 @@ module _ (K : Class) (N : Net) where
       once_more (subst (λ (x : List ℕ). Placed K N x (order_in exit) (k + 1)) (sym (flag_put area node exit k v h m p q))
       (subst (λ (y : List ℕ). Placed K N (set (flags_in area) v 1) y (k + 1)) (sym (order_put area node exit k v h m p q)) (placed_more K N t sourced v l o all)))
 
+  pub placed_waits : (area exit : List ℕ) {k v : ℕ} → Placed K N (flags_in area) (order_in area) k → ready K N (flags_in area) v ≡ false → (flags_in exit ≡ flags_in area) × (order_in exit ≡ order_in area)
+      → PlacedOnce K N (flags_in area) (flags_in exit) (order_in exit) k k v
+  placed_waits area exit {k} t off e = record {
+    holds = subst (λ (x : List ℕ). Placed K N x (order_in exit) k) (sym e.0) (subst (λ (y : List ℕ). Placed K N (flags_in area) y k) (sym e.1) t);
+    grows = le_refl k;
+    still = λ _. (e.0, λ _. off);
+  }
+
   pub placed_start : (area : List ℕ) → area ≡ replicate 4096 0 → size N ≤ 1024 → Placed K N (flags_in area) (order_in area) 0
   placed_start area e h =
       let f : flags_in area ≡ replicate 1024 0 = ap flags_in e ∙ section_replicate 3072 1024 4096 0 (omega arith) in
       subst (λ (x : List ℕ). Placed K N x (order_in area) 0) (sym f)
       (placed_none K N 1024 (order_in area) h (omega (arith, section-length 0 1024 area (omega (arith, ap length e, length-replicate {A = ℕ} 4096 0)))))
+
+  pub placed_rest : {flags₀ flags order : List ℕ} {k₀ k i : ℕ} → PlacedPass K N flags₀ flags order k₀ k i → k ≡ k₀ → Placed K N flags order k₀ × Waiting (ready K N) flags i
+  placed_rest {flags₀} {flags} {order} {k₀} {k} {i} s e = (subst (λ (m : ℕ). Placed K N flags order m) e s.holds, swept_rest s e)
 
   -- where nothing more can be placed, and the order is kept
   pub outcome_in : (area turns : List ℕ) {k : ℕ} → size N ≤ 1024 → Sourced N → Placed K N (flags_in area) (order_in area) k → Waiting (ready K N) (flags_in area) (size N)

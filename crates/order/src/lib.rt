@@ -6,11 +6,12 @@ pub mod hinted;
 
 ghost use Rattle.std.specs.Prelude.{◌≡◌, true, false, ℕ, ◌<◌, ◌≤◌, length, get_or};
 ghost use Rattle.netlist.specs.Net.{Net, size, element_at, in_clock, Sourced};
+ghost use Rattle.circuit.specs.Circuit.{net_of, order_of, Circuit};
 ghost use Rattle.order.specs.Pass.{Waiting};
 ghost use Rattle.order.specs.Order.{class_of, flags_in, order_in, Placed, ready, PlacedOnce, PlacedPass, Outcome};
 
 use areas::{at_or, read_at, write_at};
-use circuit::{Draft, Netlist};
+use circuit::{Netlist, put_order};
 
 // The steps that count: those within the clock (check 9), or those into registers (check 10). (An enum and no closure: contracts name the class of a kind of steps.)
 #[derive(Clone, Copy)]
@@ -191,31 +192,32 @@ fn settle(net: &Netlist, start: usize, area: &mut [u16; PLACING]) -> usize
 }
 
 // Keeps the order in the circuit.
-fn keep_order(draft: &mut Draft, area: &[u16; PLACING])
-    ensures file { draft.new.file ≡ draft.old.file }
-    ensures net { draft.new.net ≡ draft.old.net }
-    ensures order { (i : ℕ) → i < size draft.old.net → get_or draft.new.order i 0 ≡ get_or area.now i 0 }
+fn keep_order(file: &[u8], net: &mut [u16], area: &[u16; PLACING])
+    requires { Circuit file.now net.old }
+    ensures net { net_of file.now net.new ≡ net_of file.now net.old }
+    ensures circuit { Circuit file.now net.new }
+    ensures order { (i : ℕ) → i < size (net_of file.now net.old) → get_or (order_of net.new) i 0 ≡ get_or area.now i 0 }
 {
-    draft.bounds();
-    let n = draft.node_count();
+    let n = Netlist::of(file, net).node_count();
     for i in 0..n {
-        draft.put_turn(i, read_at(area, i));
+        put_order(file, net, i, read_at(area, i));
     }
 }
 
 // Puts the nodes into an order, in the circuit, as far as they can be, and gives how many.
-pub fn order_nodes(draft: &mut Draft) -> usize
-    requires { Sourced draft.old.net }
-    ensures file { draft.new.file ≡ draft.old.file }
-    ensures net { draft.new.net ≡ draft.old.net }
-    ensures outcome { Outcome in_clock draft.old.net draft.new.order result }
+pub fn order_nodes(file: &[u8], net: &mut [u16]) -> usize
+    requires circuit { Circuit file.now net.old }
+    requires sourced { Sourced (net_of file.now net.old) }
+    ensures net { net_of file.now net.new ≡ net_of file.now net.old }
+    ensures circuit { Circuit file.now net.new }
+    ensures outcome { Outcome in_clock (net_of file.now net.old) (order_of net.new) result }
 {
-    let net = draft.shown();
-    net.bounds();
+    let shown = Netlist::of(file, net);
+    shown.bounds();
     let mut area = [0u16; PLACING];
-    let first = sweep(&net, 0, &mut area);
-    let placed = wake_all(&net, first, &mut area);
-    let settled = settle(&net, placed, &mut area);
-    keep_order(draft, &area);
+    let first = sweep(&shown, 0, &mut area);
+    let placed = wake_all(&shown, first, &mut area);
+    let settled = settle(&shown, placed, &mut area);
+    keep_order(file, net, &area);
     settled
 }
