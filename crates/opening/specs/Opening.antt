@@ -1,12 +1,15 @@
 -- A circuit is filled field by field. Assumes nothing.
-use Rattle.std.specs.Prelude.{◌≡◌, List, [], ◌∷◌, ◌++◌, ℕ, ◌+◌, ◌<◌, length, get_or, set}
-use Rattle.std.proofs.Common.{sym, ap, ◌∙◌, arith, length-set, length-append, get_or-set_same, get_or-set_other, below_more}
+use Rattle.std.specs.Prelude.{◌≡◌, List, [], ◌∷◌, ◌++◌, ℕ, ◌+◌, ◌<◌, length, get_or, set, Result, Ok, Err, IfOk, IfErr}
+use Rattle.std.proofs.Common.{sym, ap, subst, ◌∙◌, arith, length-set, length-append, get_or-set_same, get_or-set_other, below_more}
 use Rattle.std.proofs.Math.ListN.{get_or-append}
 use Rattle.std.proofs.Math.Seq.{get_or-append_seam}
 use Rattle.netlist.specs.declared.Node.{Node}
-use Rattle.netlist.specs.File.{good, decode}
+use Rattle.netlist.specs.declared.Refusal.{Refusal}
+use Rattle.netlist.specs.Refusal.{number_of, place_of, said}
+use Rattle.netlist.specs.Verdict.{Verdict, Fine, Refuses}
+use Rattle.netlist.specs.File.{bad, good, decode}
+use Rattle.circuit.specs.Circuit.{net_of, Circuit}
 use Rattle.circuit.proofs.CircuitLaws.{size-nodes, table_place}
-use Rattle.circuit.specs.Shown.{Shown}
 use Rattle.circuit.specs.Building.{Pushed, Built}
 use Rattle.circuit.proofs.Heading.{Heading, heading_done}
 
@@ -34,7 +37,25 @@ built_table {ts} {l} {t} at b e h = heading_done heading (omega (arith, longer))
 pub built_node : {ts l m : List ℕ} {xs : List Node} {x : Node} → Built ts xs l → Pushed l x m → Built ts (xs ++ (x ∷ [])) m
 built_node {x = x} b p = record { formed = p.formed; tables = p.tables ∙ b.tables; nodes = p.nodes ∙ ap (λ (y : List Node). y ++ (x ∷ [])) b.nodes }
 
--- a file that checks 1 to 5 take, as it is shown
-pub record FilledAs (s : List ℕ) (h : Shown) : Type 0 where
-  pub reads : decode s ≡ good h.net
-  pub words : h.file ≡ s
+-- what opening leaves: a refusal of checks 1 to 5, or the circuit of the file's netlist
+pub data Filled (s l : List ℕ) : Verdict → Type 0 where
+  turned_away : {k p : ℕ} → decode s ≡ bad k p → Filled s l (Refuses k p)
+  read : decode s ≡ good (net_of s l) → Circuit s l → Filled s l Fine
+
+module _ {s l : List ℕ} where
+  pub filled-refused : {r : Verdict} {k p : ℕ} → Filled s l r → r ≡ Refuses k p → decode s ≡ bad k p
+  filled-refused {k = k} {p} f e = told (subst (Filled s l) e f)
+    where
+      told : Filled s l (Refuses k p) → decode s ≡ bad k p
+      told (turned_away q) = q
+
+  pub filled_fine : {r : Verdict} → Filled s l r → r ≡ Fine → (decode s ≡ good (net_of s l)) × Circuit s l
+  filled_fine f e = told (subst (Filled s l) e f)
+    where
+      told : Filled s l Fine → (decode s ≡ good (net_of s l)) × Circuit s l
+      told (read q o) = (q, o)
+
+  -- by what fill_circuit says
+  pub filled_by : (r : Result (Unit {0}) Refusal) → IfOk r (λ _. decode s ≡ good (net_of s l)) → IfOk r (λ _. Circuit s l) → IfErr r (λ x. decode s ≡ bad (number_of x) (place_of x)) → Filled s l (said r)
+  filled_by (Ok u) q o e = read q o
+  filled_by (Err x) q o e = turned_away e

@@ -1,23 +1,25 @@
 -- A file is read field by field into a circuit: what holds between two fields, and what a field makes of it. Assumes nothing.
-use Rattle.std.specs.Prelude.{◌≡◌, true, false, List, [], ◌∷◌, ◌++◌, map, ℕ, zero, suc, ◌+◌, ◌≤◌, ◌<◌, length, Result, Ok, Err}
+use Rattle.std.specs.Prelude.{◌≡◌, true, false, List, [], ◌∷◌, ◌++◌, map, ℕ, zero, suc, ◌+◌, ◌≤◌, ◌<◌, length, Result, Ok, Err, IfOk, IfErr}
 use Rattle.std.proofs.Math.Path.{refl, sym, ap}
 use Rattle.std.proofs.Common.{ap₂, subst, ◌∙◌, arith, length-append}
 use Rattle.std.proofs.lemmas.List.{length-map}
 use Rattle.lists.proofs.ListsLaws.{no_length, map-append}
-use Rattle.lists.proofs.Paths.{on_lt, off_lt}
-use Rattle.netlist.specs.Scan.{table_step, node_step, Step, Refuse, TableField, NodeField, EndField, refused, found, follow, step_at, walk, after_head, scan}
+use Rattle.lists.proofs.Paths.{arms, arms_lt, on_lt, off_lt}
+use Rattle.netlist.specs.Scan.{table_step, node_step, end_step, Step, Refuse, TableField, NodeField, EndField, refused, found, follow, step_at, walk, after_head, scan}
 use Rattle.netlist.specs.ScanLaws.{NodeAt}
 use Rattle.netlist.proofs.ScanLaws.{table_step_lem, node_step_lem, walk_step, scan_found}
 use Rattle.netlist.specs.File.{bad, good, node_in, net_in, decode, decoded}
 use Rattle.netlist.specs.declared.Node.{Node}
 use Rattle.netlist.specs.declared.Refusal.{Refusal}
 use Rattle.netlist.specs.Refusal.{number_of, place_of}
+use Rattle.netlist.specs.Verdict.{Verdict, Fine, Refuses}
 use Rattle.circuit.specs.Circuit.{nodes_of, net_of, Circuit}
 use Rattle.circuit.specs.Building.{Pushed, Built}
 use Rattle.circuit.proofs.Building.{built_net, built_circuit}
 use Rattle.reader.specs.Head.{Headed}
-use Rattle.reader.specs.Fields.{table_stands, node_stands, stepped, last_step, step_table, step_node, step_last}
-use Rattle.opening.specs.Opening.{built_node}
+use Rattle.reader.specs.Fields.{whole, table_stands, node_stands, stepped, last_step, step_table, step_node, step_last}
+use Rattle.reader.proofs.Verdicts.{verdict_of}
+use Rattle.opening.specs.Opening.{Filled, turned_away, read, built_node}
 
 module _ (s : List ℕ) where
   refusal : {k p : ℕ} → refused k p ≡ scan s → decode s ≡ bad k p
@@ -165,10 +167,57 @@ pub record NodesRead (s l : List ℕ) (at : ℕ) : Type 0 where
   pub first : count ≡ 0 → table_stands s at ≡ false
   pub none : node_stands s at ≡ false
 
+-- a refusal of number k, which is the file's: a bad table is 4, a bad node 5
+pub record BadField (k : ℕ) (s : List ℕ) (r : Refusal) : Type 0 where
+  pub number : number_of r ≡ k
+  pub file : decode s ≡ bad k (place_of r)
+
+pub table_bad : {s l : List ℕ} {r : Refusal} → BadField 4 s r → Filled s l (Refuses 4 (place_of r))
+table_bad b = turned_away b.file
+
+pub node_bad : {s l : List ℕ} {r : Refusal} → BadField 5 s r → Filled s l (Refuses 5 (place_of r))
+node_bad b = turned_away b.file
+
+-- it is the refusal of the whole file
+pub bad_said : {k : ℕ} {s : List ℕ} {r : Refusal} → BadField k s r → decode s ≡ bad (number_of r) (place_of r)
+bad_said {k} {s} {r} b = b.file ∙ ap (λ (j : ℕ). bad j (place_of r)) (sym b.number)
+
+pub behind-tables : {s l : List ℕ} {at : ℕ} → TablesRead s l at → (t : ℕ) × Turn s l at t 0 × (table_stands s at ≡ false)
+behind-tables m = (m.count, m.turn, m.none)
+
+pub behind_inside : {s l : List ℕ} {at : ℕ} → NodesRead s l at → (length s ≤ 46000) × (at ≤ length s)
+behind_inside m = (m.turn.small, m.turn.inside)
+
+-- where a table or a node alone may come, the definition's steps refuse with 4 or 5 alone
+abbrev Says : ℕ → ℕ → ℕ → Step → Type 0
+Says j k p x = x ≡ Refuse k p → k ≡ j
+
+module _ (s : List ℕ) (at : ℕ) {k p : ℕ} where
+  no_table_field : {next : ℕ} → TableField next ≡ Refuse k p → k ≡ 4
+  no_table_field e = let z : ◌≡◌ {A = ℕ} 0 1 = cc in absurd (omega arith)
+
+  no_node_field : {next : ℕ} → NodeField next ≡ Refuse k p → k ≡ 5
+  no_node_field e = let z : ◌≡◌ {A = ℕ} 0 1 = cc in absurd (omega arith)
+
+  pub table_four : (t : ℕ) → table_step s at t 0 ≡ Refuse k p → k ≡ 4
+  unfolding table_step
+  table_four t =
+      arms_lt (Says 4 k p) _ _ 0 0 (λ h. absurd (omega arith)) (λ _.
+      arms (Says 4 k p) _ _ _ (λ _. arms (Says 4 k p) _ _ _ (λ _. no_table_field) (λ _ e. cc)) (λ _ e. cc))
+
+  pub node_five : (n : ℕ) → node_step s at n ≡ Refuse k p → k ≡ 5
+  unfolding node_step
+  node_five n = arms (Says 5 k p) _ _ _ (λ _. arms (Says 5 k p) _ _ _ (λ _. no_node_field) (λ _ e. cc)) (λ _ e. cc)
+
 -- a table that stands there is refused, or read
 module _ {s l : List ℕ} {at t : ℕ} (w : Turn s l at t 0) (stands : table_stands s at ≡ true) where
   pub table-refused : (r : Refusal) → table_step s at t 0 ≡ stepped TableField (Err r) → decode s ≡ bad (number_of r) (place_of r)
   table-refused r e = refuses w (step_table s at t 0 stands ∙ e)
+
+  pub bad_table : (r : Refusal) → table_step s at t 0 ≡ stepped TableField (Err r) → BadField 4 s r
+  bad_table r e =
+      let four = table_four s at t e in
+      record { number = four; file = table-refused r e ∙ ap (λ (j : ℕ). bad j (place_of r)) four }
 
   pub table_taken : {next : ℕ} → table_step s at t 0 ≡ stepped TableField (Ok next) → step_at s at t 0 ≡ TableField next
   table_taken e = step_table s at t 0 stands ∙ e
@@ -177,6 +226,11 @@ module _ {s l : List ℕ} {at t : ℕ} (w : Turn s l at t 0) (stands : table_sta
 module _ {s l : List ℕ} {at t n : ℕ} (w : Turn s l at t n) (stands : node_stands s at ≡ true) where
   pub node_refused : (r : Refusal) → node_step s at n ≡ stepped NodeField (Err r) → decode s ≡ bad (number_of r) (place_of r)
   node_refused r e = refuses w (step_node s at t n stands ∙ e)
+
+  pub bad_node : (r : Refusal) → node_step s at n ≡ stepped NodeField (Err r) → BadField 5 s r
+  bad_node r e =
+      let five = node_five s at n e in
+      record { number = five; file = node_refused r e ∙ ap (λ (j : ℕ). bad j (place_of r)) five }
 
   pub node_taken : {next : ℕ} → node_step s at n ≡ stepped NodeField (Ok next) → step_at s at t n ≡ NodeField next
   node_taken e = step_node s at t n stands ∙ e
@@ -194,3 +248,33 @@ module _ {s l : List ℕ} {at : ℕ} (m : NodesRead s l at) where
 
   pub end_taken : {u : Unit {0}} → last_step s at ≡ end_stepped (Ok u) → (decode s ≡ good (net_of s l)) × Circuit s l
   end_taken e = ends m.turn (step_end ∙ e)
+
+  -- what it says of the file, whatever it says
+  pub end_reads : (r : Result (Unit {0}) Refusal) → last_step s at ≡ end_stepped r → IfOk r (λ _. decode s ≡ good (net_of s l))
+  end_reads (Ok u) e = (end_taken e).0
+  end_reads (Err x) e = tt
+
+  pub end_circuit : (r : Result (Unit {0}) Refusal) → last_step s at ≡ end_stepped r → IfOk r (λ _. Circuit s l)
+  end_circuit (Ok u) e = (end_taken e).1
+  end_circuit (Err x) e = tt
+
+  pub end_bad : (r : Result (Unit {0}) Refusal) → last_step s at ≡ end_stepped r → IfErr r (λ x. decode s ≡ bad (number_of x) (place_of x))
+  end_bad (Ok u) e = tt
+  end_bad (Err x) e = end-refused x e
+
+-- what stands behind both is the file's verdict
+pub last_filled : {s l : List ℕ} {at : ℕ} {r : Verdict} → NodesRead s l at → r ≡ verdict_of (last_step s at) → Filled s l r
+unfolding last_step end_step
+last_filled {s} {l} {at} {r} m e = subst (Filled s l) (sym e) (told (step_last s at m.tables m.count m.first m.none))
+  where
+    P : Step → Type 0
+    P x = step_at s at m.tables m.count ≡ x → Filled s l (verdict_of x)
+
+    good_end : (decode s ≡ good (net_of s l)) × Circuit s l → Filled s l Fine
+    good_end (q, o) = read q o
+
+    told : P (last_step s at)
+    told =
+        arms P _ _ (whole s at)
+        (λ _. arms P _ _ _ (λ _. arms P _ _ _ (λ _. arms P _ _ _ (λ _ z. good_end (ends m.turn z)) (λ _ z. turned_away (refuses m.turn z))) (λ _ z. turned_away (refuses m.turn z))) (λ _ z. turned_away (refuses m.turn z)))
+        (λ _ z. turned_away (refuses m.turn z))

@@ -5,14 +5,13 @@ mod fields;
 
 ghost use Rattle.std.specs.Prelude.{◌≡◌, List, [], ◌∷◌, ◌++◌, ℕ, ◌<◌, ◌≤◌, length, IfOk, IfErr};
 ghost use Rattle.netlist.specs.Refusal.{number_of, place_of};
-ghost use Rattle.netlist.specs.File.{bad, decode};
-ghost use Rattle.circuit.specs.Circuit.{circuit_words, tables_of, Circuit};
+ghost use Rattle.netlist.specs.File.{bad, good, decode};
+ghost use Rattle.circuit.specs.Circuit.{circuit_words, net_of, Circuit};
 ghost use Rattle.circuit.specs.Building.{Built};
 ghost use Rattle.reader.specs.Head.{Headed};
-ghost use Rattle.opening.specs.Opening.{FilledAs};
-ghost use Rattle.opening.specs.Turn.{TablesRead, NodesRead};
+ghost use Rattle.opening.specs.Turn.{TablesRead, NodesRead, BadField};
 
-use circuit::{Draft, push_row};
+use circuit::push_row;
 use fields::row_at;
 use netlist::Refusal;
 use reader::{check_end, check_head, node_end, node_stands, table_end, table_stands};
@@ -27,13 +26,13 @@ fn put_table(net: &mut [u16], t: usize, at: u16)
     net[2 + t] = at;
 }
 
-// Reads the tables, which stand behind the head: where the fields behind them begin.
+// Reads the tables, which stand behind the head: where the fields behind them begin. A bad one is 4.
 fn fill_tables(file: &[u8], net: &mut [u16]) -> Result<usize, Refusal>
     requires small { length file.now ≤ 46000 }
     requires headed { Headed file.now }
     requires room { circuit_words ≤ length net.old }
     ensures ok { IfOk result (λ at. TablesRead file.now net.new at) }
-    ensures err { IfErr result (λ r. decode file.now ≡ bad (number_of r) (place_of r)) }
+    ensures err { IfErr result (λ r. BadField 4 file.now r) }
 {
     net[0] = 0;
     net[1] = 0;
@@ -49,11 +48,11 @@ fn fill_tables(file: &[u8], net: &mut [u16]) -> Result<usize, Refusal>
     Ok(at)
 }
 
-// Reads the nodes, which stand behind the tables: where the fields behind them begin. (Their loop has no table in it: it is the one that takes time.)
+// Reads the nodes, which stand behind the tables: where the fields behind them begin. A bad one is 5. (Their loop has no table in it: it is the one that takes time.)
 fn fill_nodes(file: &[u8], net: &mut [u16], from: usize) -> Result<usize, Refusal>
     requires { TablesRead file.now net.old from }
     ensures ok { IfOk result (λ at. NodesRead file.now net.new at) }
-    ensures err { IfErr result (λ r. decode file.now ≡ bad (number_of r) (place_of r)) }
+    ensures err { IfErr result (λ r. BadField 5 file.now r) }
 {
     let mut at = from;
     let mut n: usize = 0;
@@ -67,10 +66,11 @@ fn fill_nodes(file: &[u8], net: &mut [u16], from: usize) -> Result<usize, Refusa
     Ok(at)
 }
 
-// Checks 1 to 5, and the circuit of the file's netlist: each field is read once. After a refusal nothing is said of the room lent.
-pub fn fill_circuit<'f, 'n>(file: &'f [u8], net: &'n mut [u16]) -> Result<Draft<'f, 'n>, Refusal>
+// Checks 1 to 5, and the circuit of the file's netlist in the words lent: each field is read once. After a refusal nothing is said of them.
+pub fn fill_circuit(file: &[u8], net: &mut [u16]) -> Result<(), Refusal>
     requires { circuit_words ≤ length net.old }
-    ensures ok { IfOk result (λ d. FilledAs file.now d) }
+    ensures reads { IfOk result (λ _. decode file.now ≡ good (net_of file.now net.new)) }
+    ensures circuit { IfOk result (λ _. Circuit file.now net.new) }
     ensures err { IfErr result (λ r. decode file.now ≡ bad (number_of r) (place_of r)) }
 {
     if 46000 < file.len() {
@@ -79,6 +79,5 @@ pub fn fill_circuit<'f, 'n>(file: &'f [u8], net: &'n mut [u16]) -> Result<Draft<
     check_head(file)?;
     let behind = fill_tables(file, net)?;
     let end = fill_nodes(file, net, behind)?;
-    check_end(file, end)?;
-    Ok(Draft::of(file, net))
+    check_end(file, end)
 }

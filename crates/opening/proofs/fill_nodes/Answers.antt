@@ -1,7 +1,7 @@
 use Rattle.std.proofs.Common.{◌∙◌, sym, arith}
 use Rattle.std.proofs.lemmas.Result.{err_from_is_err_and}
 use Rattle.reader.specs.Fields.{node_inside}
-use Rattle.opening.specs.Turn.{node_bounds, node_there, shown, node_turns, node_refused, node_taken}
+use Rattle.opening.specs.Turn.{node_bounds, node_there, shown, node_turns, bad_node, node_taken}
 use Rattle.opening.proofs.fill_nodes.Goals as goal
 
 pub node_end-requires : goal.node_end-requires
@@ -10,7 +10,7 @@ node_end-requires c = record { small = c.loop-from.invariant.turn.small; inside 
 pub returns-in_err-next-clause-err : goal.returns-in_err-next-clause-err
 returns-in_err-next-clause-err c =
     let p = err_from_is_err_and c.from_residual.result c.from_residual.ensures.1 in
-    rw (p.1, p.2) (node_refused c.loop-from.invariant.turn (sym c.node_stands.ensures ∙ c.loop-from-test.true) _ c.in_err-next.ensures)
+    rw (p.1, p.2) (bad_node c.loop-from.invariant.turn (sym c.node_stands.ensures ∙ c.loop-from-test.true) _ c.in_err-next.ensures)
 
 pub row_at-requires : goal.row_at-requires
 row_at-requires c = node_there c.loop-from.invariant.turn (node_taken c.loop-from.invariant.turn (sym c.node_stands.ensures ∙ c.loop-from-test.true) c.in_ok-next.ensures)
