@@ -7,12 +7,13 @@ ghost use Rattle.std.specs.Prelude.{◌≡◌, ◌<◌, ◌≤◌, length};
 ghost use Rattle.lists.specs.Lists.{lowest};
 ghost use Rattle.netlist.specs.Net.{Net, size, in_clock, Sourced};
 ghost use Rattle.netlist.specs.Reach.{reaches_itself};
+ghost use Rattle.circuit.specs.Circuit.{net_of, order_of, Circuit};
 ghost use Rattle.circuit.specs.Order.{Complete};
 ghost use Rattle.order.specs.Order.{class_of};
 ghost use Rattle.cycles.specs.Spread.{touches, Reached, ReachedOnce, ReachedPass};
 
 use areas::{at_or, put, read_at};
-use circuit::{Draft, Netlist};
+use circuit::Netlist;
 use order::{Steps, count_at, order_nodes};
 use proposal::{AREA, propose};
 
@@ -150,19 +151,20 @@ fn lowest_on_cycle(net: &Netlist, steps: Steps, hint: &[u16]) -> usize
 }
 
 // Check 9: the lowest node that reaches itself within the clock, or the number of nodes: then the circuit's order holds all nodes, each after what it reads.
-pub fn lowest_cycle(draft: &mut Draft) -> usize
-    requires { Sourced draft.old.net }
-    ensures file { draft.new.file ≡ draft.old.file }
-    ensures net { draft.new.net ≡ draft.old.net }
-    ensures lowest { let N = draft.old.net in result ≡ lowest (size N) (reaches_itself in_clock N) }
-    ensures complete { let N = draft.old.net in result ≡ size N → Complete in_clock N draft.new.order }
+pub fn lowest_cycle(file: &[u8], net: &mut [u16]) -> usize
+    requires circuit { Circuit file.now net.old }
+    requires sourced { Sourced (net_of file.now net.old) }
+    ensures net { net_of file.now net.new ≡ net_of file.now net.old }
+    ensures circuit { Circuit file.now net.new }
+    ensures lowest { let N = net_of file.now net.old in result ≡ lowest (size N) (reaches_itself in_clock N) }
+    ensures complete { let N = net_of file.now net.old in result ≡ size N → Complete in_clock N (order_of net.new) }
 {
-    let placed = order_nodes(draft);
-    if placed == draft.node_count() {
+    let placed = order_nodes(file, net);
+    let shown = Netlist::of(file, net);
+    if placed == shown.node_count() {
         return placed;
     }
     let mut area = [0u16; AREA];
-    let net = draft.shown();
-    propose(&net, Steps::InClock, &mut area);
-    lowest_on_cycle(&net, Steps::InClock, &area)
+    propose(&shown, Steps::InClock, &mut area);
+    lowest_on_cycle(&shown, Steps::InClock, &area)
 }
