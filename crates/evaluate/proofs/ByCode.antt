@@ -1,11 +1,12 @@
 -- What node v gives and what it holds next, by its code. Assumes nothing.
-use mathlib.Core.Path.{◌≡◌, ap, ◌∙◌}
+use mathlib.Core.Path.{◌≡◌, sym, ap, ◌∙◌}
 use mathlib.Core.Bool.{true, false}
 use mathlib.Core.List.{List}
 use Prim.Native.Nat.{ℕ, ◌^◌, ◌≤◌, ◌<◌}
 use native.Mathlib.Omega.{arith}
 use lib.ListN.{get_or}
 use lib.Pow.{pow_mono}
+use borrow.Author.Tests.{ne_eqb}
 use Rattle.words.specs.declared.Op.{Op}
 use Rattle.gates.specs.Gate.{gate_word}
 use Rattle.netlist.specs.Net.{Net, size, element_at, width_at, source, is_register, is_memory, contents_at, Sourced}
@@ -99,3 +100,8 @@ module _ (N : Net) (ws : List ℕ) (v : ℕ) {x u : ℕ} (on : row_test State N 
 
     pub next_rom : {r : ℕ} → r ≡ get_or (contents_at N v) x 0 → r ≡ next_word N ws v
     next_rom i = i ∙ ap (λ (j : ℕ). get_or (contents_at N v) j 0) reads ∙ holds.1
+
+-- the same, by the code, of one that holds a word and is no register
+module _ (N : Net) (ws : List ℕ) (v : ℕ) {c x u : ℕ} (k : c ≡ code_of (element_at N v)) (on : row_test State N v ≡ true) (e : x ≡ get_or ws u 0) (q : u ≡ source N v 0) (not : c ≡ 2 → ⊥) where
+  pub next_asks : WellFormed N → v < size N → WordsFit N ws → (is_memory (element_at N v) ≡ true) × (x < 2 ^ width_at N (source N v 0))
+  next_asks wf l fit = (next_memory N ws v on e q (sym (code_register (element_at N v)) ∙ ne_eqb (code_of (element_at N v)) 2 (λ h. not (k ∙ h))), next_address N ws v on e q wf l fit)

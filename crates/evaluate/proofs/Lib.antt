@@ -1,3 +1,4 @@
 pub mod Counted
 pub mod ByCode
 pub mod Rows
+pub mod RowCodes
