@@ -13,7 +13,7 @@ use Rattle.lists.proofs.BelowLaws.{any_below_elim, any_below_none, lowest_from_i
 use Rattle.lists.proofs.SearchLaws.{Passed, lowest_here, lowest_past, lowest_bound}
 use Rattle.netlist.specs.Net.{Net, size, element_at, is_input, Sourced}
 use Rattle.netlist.specs.Verdict.{Fine, Refuses, at_lowest, of_whole, verdict}
-use Rattle.netlist.proofs.Places.{skip}
+use Rattle.netlist.proofs.Places.{skip, refuses}
 use Rattle.retiming.specs.AtMostRoms.{rom_count}
 use Rattle.retiming.specs.Rewrite.{Timing}
 use Rattle.retiming.specs.LateLeads.{origin, closed_debt_to, owing_port_to}
@@ -22,7 +22,7 @@ use Rattle.retiming.specs.Modes.{mode_ends, mode_closed, mode_owing}
 use Rattle.leads.specs.Debts.{owing_by, debts_verdict}
 use Rattle.leads.specs.Progress.{Walked, Quiet, Progress}
 use Rattle.leads.specs.Settled.{LeadsIn, Found, Outcome, settled, debt, quiet_settled, over_debt}
-use Rattle.leads.proofs.ByMode.{closed_by, owing_to}
+use Rattle.leads.proofs.ByMode.{origin_is, closed_by, owing_to}
 
 module _ (N : Net) (sourced : Sourced N) {bound n : ℕ} (z : n ≡ size N) {ends : ℕ → Bool} {L : List ℕ} (t : Walked N ends L) where
   pub over_found : bound ≡ origin N + rom_count N → any_below n (λ v. ltb bound (get_or L v 0)) ≡ true → Outcome N ends L false
@@ -90,6 +90,19 @@ module _ (mode : Mode) (N : Net) where
       -- 12 by the numbers found
       pub ports_say : verdict (at_lowest 12 (size N) (owing_by N (origin N) L) ∷ []) ≡ debts_verdict mode N
       ports_say = check-same 12 (size N) owing ∙ sym (past_11 now_settled.0)
+
+      -- v is the lowest port that owes by the numbers found
+      module _ {n v : ℕ} (z : n ≡ size N) (low : v ≡ lowest (size N) (owing_by N (n + 2) L)) where
+        lowest_owing : v ≡ lowest (size N) (owing_by N (origin N) L)
+        lowest_owing = low ∙ ap (λ (base : ℕ). lowest (size N) (owing_by N base L)) (origin_is N z)
+
+        pub says_12 : v < n → Refuses 12 v ≡ debts_verdict mode N
+        says_12 h = sym (refuses 12 (size N) (owing_by N (origin N) L) [] v (sym lowest_owing, omega arith)) ∙ ports_say
+
+        pub says_neither : n ≤ v → Fine ≡ debts_verdict mode N
+        unfolding verdict
+        says_neither h =
+            sym (skip (at_lowest 12 (size N) (owing_by N (origin N) L)) [] (λ u l. (lowest_from_is (owing_by N (origin N) L) 0 (size N)).none_before u zero-le (omega (arith, lowest_owing)))) ∙ ports_say
 
 -- the leads at the front of a list
 pub leads_front : (N : Net) (f : Timing) (L M : List ℕ) → size N ≤ length L → LeadsIn N f L → LeadsIn N f (L ++ M)

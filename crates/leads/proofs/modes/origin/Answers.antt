@@ -1,8 +1,6 @@
 -- Two more than the number of nodes.
-use native.Mathlib.Omega.{arith}
-use Rattle.retiming.specs.LateLeads.{origin}
+use Rattle.leads.proofs.ByMode.{origin_is}
 use Rattle.leads.proofs.modes.origin.Goals as goal
 
 pub returns : goal.returns
-unfolding origin
-returns c = omega arith
+returns c = origin_is c.args.net.now.net c.node_count.ensures.count
