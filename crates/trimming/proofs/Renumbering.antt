@@ -1,33 +1,51 @@
--- The nodes of a netlist, from the first on, read their tables at new numbers. Assumes nothing.
-use Rattle.std.specs.Prelude.{◌≡◌, ℕ, ◌+◌, ◌≤◌, ◌<◌}
-use Rattle.std.proofs.Common.{ap, ◌∙◌}
-use Rattle.std.proofs.Math.ListN.{get_or, set}
-use Rattle.lists.proofs.Mapped.{mapped_to, mapped_length, mapped_next, mapped_more, mapped_all}
+-- The nodes of a circuit, from the first on, read their tables at new numbers. Assumes nothing.
+use Rattle.std.specs.Prelude.{◌≡◌, refl, List, map, ℕ, ◌+◌, ◌≤◌, ◌<◌, length, get_or, set}
+use Rattle.std.proofs.Math.Path.{ap₂}
+use Rattle.std.proofs.Common.{ap, subst, ◌∙◌, zero-le, arith}
+use Rattle.lists.proofs.Mapped.{mapped_length, mapped_next, mapped_more, mapped_all}
 use Rattle.netlist.specs.declared.Node.{Node}
-use Rattle.netlist.specs.Net.{Net, nowhere, size, table_of, node_at, element_at}
+use Rattle.netlist.specs.Net.{nowhere, table_of, node_at, element_at}
 use Rattle.netlist.specs.Trim.{node_over, renumbered}
 use Rattle.netlist.proofs.Trimmed.{over_same}
 use Rattle.circuit.specs.Code.{table_or}
 use Rattle.circuit.proofs.CodeLaws.{rom-table}
-use Rattle.circuit.specs.Shown.{with_table}
-use Rattle.trimming.specs.Renumbering.{all_renumbered, renumbered_to}
+use Rattle.circuit.specs.Circuit.{nodes_of, tables_of, net_of, Circuit}
+use Rattle.circuit.specs.Building.{Built}
+use Rattle.circuit.proofs.Building.{rebuilt}
+use Rattle.circuit.specs.Renumbering.{Retabled}
+use Rattle.trimming.specs.Renumbering.{Renumbering}
 
 -- the number of its row's table, where only a ROM shows it
 node_or : (g : ℕ → ℕ) (r : ℕ) (n : Node) → r ≡ table_or r n.element → node_over (g r) n ≡ renumbered g n
 unfolding renumbered
 node_or g r n q = λ i. record { element = over_same (g r) (g (table_of n.element)) n.element (λ m. ap g (rom-table n.element m q)) i; width = n.width; sources = n.sources }
 
-module _ (g : ℕ → ℕ) (v : ℕ) (N : Net) where
-  pub still_size : size (renumbered_to g v N) ≡ size N
-  still_size = mapped_length (renumbered g) v N.nodes
+pub renumbering_none : (g : ℕ → ℕ) {s l : List ℕ} → Circuit s l → Renumbering g l 0 l
+renumbering_none g i = record { below = zero-le; built = record { formed = i.formed; tables = refl; nodes = refl } }
+
+module _ {g : ℕ → ℕ} {l : List ℕ} {v : ℕ} {m : List ℕ} (t : Renumbering g l v m) where
+  pub still_size : length (nodes_of m) ≡ length (nodes_of l)
+  still_size = ap length t.built.nodes ∙ mapped_length (renumbered g) v (nodes_of l)
+
+  pub still_circuit : {s : List ℕ} → Circuit s l → Circuit s m
+  still_circuit {s} i = (rebuilt s l i t.built).1
 
   -- the next node is as it was
-  pub renumbering_more : (r : ℕ) → v < size N → r ≡ table_or r (element_at (renumbered_to g v N) v) → with_table (renumbered_to g v N) v (g r) ≡ renumbered_to g (v + 1) N
-  unfolding element_at node_at
-  renumbering_more r h e = λ i. record {
-    tables = N.tables;
-    nodes = (ap (set (mapped_to (renumbered g) v N.nodes) v) (node_or g r (get_or (mapped_to (renumbered g) v N.nodes) v nowhere) e ∙ ap (renumbered g) (mapped_next (renumbered g) v N.nodes nowhere h)) ∙ mapped_more (renumbered g) v N.nodes nowhere h) i;
+  next : v < length (nodes_of l) → get_or (nodes_of m) v nowhere ≡ get_or (nodes_of l) v nowhere
+  next h = ap (λ (y : List Node). get_or y v nowhere) t.built.nodes ∙ mapped_next (renumbered g) v (nodes_of l) nowhere h
+
+  pub renumbering_more : (s : List ℕ) (r : ℕ) {z : List ℕ} → v < length (nodes_of l) → r ≡ table_or r (element_at (net_of s m) v) → Retabled m v (g r) z → Renumbering g l (v + 1) z
+  unfolding net_of element_at node_at
+  renumbering_more s r h e p = record {
+    below = omega arith;
+    built = record {
+      formed = p.formed;
+      tables = p.tables ∙ t.built.tables;
+      nodes =
+          p.nodes ∙ ap₂ (λ (y : List Node) (x : Node). set y v x) t.built.nodes (node_or g r (get_or (nodes_of m) v nowhere) e ∙ ap (renumbered g) (next h))
+          ∙ mapped_more (renumbered g) v (nodes_of l) nowhere h;
+    };
   }
 
-  pub renumbering_done : size N ≤ v → renumbered_to g v N ≡ all_renumbered g N
-  renumbering_done h = λ i. record { tables = N.tables; nodes = mapped_all (renumbered g) v N.nodes h i }
+  pub renumbering_done : length (nodes_of l) ≤ v → Built (tables_of l) (map (renumbered g) (nodes_of l)) m
+  renumbering_done h = subst (λ (y : List Node). Built (tables_of l) y m) (mapped_all (renumbered g) v (nodes_of l) h) t.built

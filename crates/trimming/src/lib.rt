@@ -1,14 +1,16 @@
-// A netlist gets rid of the tables that no node reads: document 02, T-06. The others keep their order, and each ROM reads the table that it read.
+// A circuit gets rid of the tables that no node reads: document 02, T-06. The others keep their order, and each ROM reads the table that it read.
 #![tactic(auto)]
 
-ghost use Rattle.std.specs.Prelude.{◌≡◌, ℕ, ◌<◌, ◌≤◌, length, get_or};
+ghost use Rattle.std.specs.Prelude.{◌≡◌, map, ℕ, ◌<◌, ◌≤◌, length, get_or};
 ghost use Rattle.netlist.specs.Checks.{HasTables};
-ghost use Rattle.netlist.specs.Trim.{trimmed};
+ghost use Rattle.netlist.specs.Trim.{renumbered, trimmed};
+ghost use Rattle.circuit.specs.Circuit.{nodes_of, tables_of, net_of, Circuit};
+ghost use Rattle.circuit.specs.Building.{Built};
 ghost use Rattle.trimming.specs.Numbers.{Numbered};
-ghost use Rattle.trimming.specs.Renumbering.{all_renumbered};
 
 use areas::at_or;
-use circuit::Draft;
+use circuit::Netlist;
+use circuit::renumber::{keep_tables, put_table};
 use rules::tables::mark_tables;
 
 // The number of each table once the unmarked ones are left out.
@@ -25,28 +27,28 @@ fn number_tables(marks: &[u8; 17], numbers: &mut [u16; 16])
 }
 
 // Writes the new number of each ROM's table. Kinds follow no pattern: to write a number into every row is cheaper than a branch, and only a ROM shows it.
-fn renumber(draft: &mut Draft, numbers: &[u16; 16])
-    requires { (m : ℕ) → get_or numbers.now m 0 < 256 }
-    ensures file { draft.new.file ≡ draft.old.file }
-    ensures net { draft.new.net ≡ all_renumbered (λ m. get_or numbers.now m 0) draft.old.net }
+fn renumber(file: &[u8], net: &mut [u16], numbers: &[u16; 16])
+    requires circuit { Circuit file.now net.old }
+    requires bytes { (m : ℕ) → get_or numbers.now m 0 < 256 }
+    ensures { Built (tables_of net.old) (map (renumbered (λ m. get_or numbers.now m 0)) (nodes_of net.old)) net.new }
 {
-    for v in 0..draft.node_count() {
-        let k = at_or(numbers, draft.shown().table(v), 0);
-        draft.put_table(v, k);
+    for v in 0..Netlist::of(file, net).node_count() {
+        let k = at_or(numbers, Netlist::of(file, net).table(v), 0);
+        put_table(net, v, k);
     }
 }
 
 // Leaves out the tables that no node reads, and numbers the others anew.
-pub fn trim_tables(draft: &mut Draft)
-    requires { HasTables draft.old.net }
-    ensures file { draft.new.file ≡ draft.old.file }
-    ensures net { draft.new.net ≡ trimmed draft.old.net }
+pub fn trim_tables(file: &[u8], net: &mut [u16])
+    requires circuit { Circuit file.now net.old }
+    requires tables { HasTables (net_of file.now net.old) }
+    ensures net { net_of file.now net.new ≡ trimmed (net_of file.now net.old) }
+    ensures circuit { Circuit file.now net.new }
 {
-    draft.bounds();
     let mut marks = [0u8; 17];
-    mark_tables(&draft.shown(), &mut marks);
+    mark_tables(&Netlist::of(file, net), &mut marks);
     let mut numbers = [0u16; 16];
     number_tables(&marks, &mut numbers);
-    renumber(draft, &numbers);
-    draft.keep_tables(&marks);
+    renumber(file, net, &numbers);
+    keep_tables(net, &marks);
 }
