@@ -1,5 +1,5 @@
 -- From the circuit and the verdict of the code to the definitions, over plain values. Assumes nothing.
-use Rattle.std.specs.Prelude.{◌≡◌, List, ℕ, ◌<◌, length, Result, Ok, Err, IfOk, IfErr}
+use Rattle.std.specs.Prelude.{◌≡◌, refl, List, ℕ, ◌<◌, length, Result, Ok, Err, IfOk, IfErr}
 use Rattle.std.proofs.Math.Path.{sym}
 use Rattle.std.proofs.Common.{ap, subst, ◌∙◌, arith}
 use Rattle.std.proofs.Math.Logic.{⊎_elim}
@@ -10,13 +10,14 @@ use Rattle.netlist.proofs.VerdictLaws.{reader_fine}
 use Rattle.netlist.specs.Verdict.{reader_verdict, Verdict, Fine, Refuses}
 use Rattle.netlist.specs.File.{bad, good, decode, judged, file_verdict, answer, check_answer, ReadAs}
 use Rattle.netlist.specs.declared.Refusal.{Refusal}
-use Rattle.netlist.specs.Refusal.{number_of, place_of}
+use Rattle.netlist.specs.Refusal.{number_of, place_of, said}
 use Rattle.netlist.specs.declared.Answer.TheVariants.{Accepted, Refused}
 use Rattle.codec.specs.Bytes.{Bytes}
 use Rattle.codec.proofs.DecodeWithin.{decode_within}
+use Rattle.circuit.specs.Circuit.{order_of, net_of, Circuit}
 use Rattle.circuit.specs.Shown.{Shown}
 use Rattle.circuit.specs.Order.{Complete}
-use Rattle.checks.specs.Open.{OpenedAs}
+use Rattle.checks.specs.Open.{Open, Opened, turned_away, taken, OpenedAs}
 
 -- a refusal of checks 1 to 5
 pub bad_file : (s : List ℕ) {k p : ℕ} → decode s ≡ bad k p → file_verdict s ≡ Refuses k p
@@ -29,6 +30,24 @@ unfolding file_verdict
 judged_by_lem s e = ap judged e
 
 -- ---- what opening tells
+
+module _ {s l : List ℕ} where
+  refused_with : {k p : ℕ} → Opened s l (Refuses k p) → file_verdict s ≡ Refuses k p
+  refused_with (turned_away e) = e
+
+  taken_with : Opened s l Fine → Open s l
+  taken_with (taken o) = o
+
+  pub opened-refused : {r : Verdict} {k p : ℕ} → Opened s l r → r ≡ Refuses k p → file_verdict s ≡ Refuses k p
+  opened-refused o e = refused_with (subst (Opened s l) e o)
+
+  pub opened_fine : {r : Verdict} → Opened s l r → r ≡ Fine → Open s l
+  opened_fine o e = taken_with (subst (Opened s l) e o)
+
+  -- by what open_file says
+  pub opened_told : (r : Result (Unit {0}) Refusal) → IfOk r (λ _. Open s l) → IfErr r (λ x. file_verdict s ≡ Refuses (number_of x) (place_of x)) → Opened s l (said r)
+  opened_told (Ok u) o e = taken o
+  opened_told (Err x) o e = turned_away e
 
 pub passed : (s : List ℕ) {N : Net} → ReadAs s N → file_verdict s ≡ Fine
 passed s o = judged_by_lem s o.reads ∙ o.fine
@@ -57,16 +76,30 @@ module _ (s : List ℕ) {N : Net} (d : decode s ≡ good N) where
   pub refused_by : (r : Refusal) → Refuses (number_of r) (place_of r) ≡ reader_verdict N → file_verdict s ≡ Refuses (number_of r) (place_of r)
   refused_by r e = judged_by_lem s d ∙ sym e
 
-  pub opened_by : {h : Shown} → h.net ≡ N → h.file ≡ s → Fine ≡ reader_verdict N → Complete in_clock N h.order → OpenedAs s h
-  opened_by {h} n f e o = record {
+  pub opened_as : {h : Shown} → h.net ≡ N → h.file ≡ s → Fine ≡ reader_verdict N → Complete in_clock N h.order → OpenedAs s h
+  opened_as {h} n f e o = record {
     file = rw n (record { reads = d; fine = sym e });
     ordered = rw n o;
     words = f;
   }
 
--- what opening tells
-pub opened-refused : (s : List ℕ) {x : Result Shown Refusal} {r : Refusal} → IfErr x (λ y. file_verdict s ≡ Refuses (number_of y) (place_of y)) → x ≡ Err r → file_verdict s ≡ Refuses (number_of r) (place_of r)
-opened-refused s o e = subst (λ (x : Result Shown Refusal). IfErr x (λ y. file_verdict s ≡ Refuses (number_of y) (place_of y))) e o
+-- from the verdict of the code
+pub opened_by : {s l : List ℕ} {N : Net} {r : Verdict} → decode s ≡ good N → net_of s l ≡ N → Circuit s l → r ≡ reader_verdict N → (r ≡ Fine → Complete in_clock N (order_of l)) → Opened s l r
+opened_by {s} {l} {r = r} d n k e f = go r (e ∙ ap reader_verdict (sym n)) (λ q. subst (λ (M : Net). Complete in_clock M (order_of l)) (sym n) (f q))
+  where
+    reads : decode s ≡ good (net_of s l)
+    reads = d ∙ ap good (sym n)
 
-pub opened_fine : (s : List ℕ) {x : Result Shown Refusal} {h : Shown} → IfOk x (λ y. OpenedAs s y) → x ≡ Ok h → OpenedAs s h
-opened_fine s o e = subst (λ (x : Result Shown Refusal). IfOk x (λ y. OpenedAs s y)) e o
+    go : (w : Verdict) → w ≡ reader_verdict (net_of s l) → (w ≡ Fine → Complete in_clock (net_of s l) (order_of l)) → Opened s l w
+    go Fine e f = taken (record { file = record { reads = reads; fine = sym e }; circuit = k; ordered = f refl })
+    go (Refuses a b) e f = turned_away (judged_by_lem s reads ∙ sym e)
+
+-- and as a result: what it leaves is open, or the file's own refusal
+module _ {s l : List ℕ} {N : Net} (d : decode s ≡ good N) (n : net_of s l ≡ N) (k : Circuit s l) where
+  pub open_by : (r : Result (Unit {0}) Refusal) → said r ≡ reader_verdict N → IfOk r (λ _. Complete in_clock N (order_of l)) → IfOk r (λ _. Open s l)
+  open_by (Ok u) e o = opened_fine (opened_by d n k e (λ _. o)) refl
+  open_by (Err x) e o = tt
+
+  pub turned_by : (r : Result (Unit {0}) Refusal) → said r ≡ reader_verdict N → IfErr r (λ x. file_verdict s ≡ Refuses (number_of x) (place_of x))
+  turned_by (Ok u) e = tt
+  turned_by (Err x) e = refused_by s d x e

@@ -7,13 +7,13 @@ ghost use Rattle.netlist.specs.NodeField.{no_node};
 ghost use Rattle.netlist.specs.Verdict.{verdict, reader_verdict, Refuses};
 ghost use Rattle.netlist.specs.Refusal.{number_of, place_of, said, refused};
 ghost use Rattle.netlist.specs.File.{check_answer, file_verdict};
-ghost use Rattle.circuit.specs.Circuit.{circuit_words};
+ghost use Rattle.circuit.specs.Circuit.{circuit_words, order_of, net_of, Circuit};
 ghost use Rattle.circuit.specs.Order.{Complete};
-ghost use Rattle.checks.specs.Open.{from_nine, OpenedAs};
+ghost use Rattle.checks.specs.Open.{from_nine, Open};
 ghost use Rattle.checks.specs.Services.{node_of_file, words_of_file};
 ghost use Rattle.checks.specs.TablePlaces.{Placed};
 
-use circuit::{Draft, WORDS};
+use circuit::{Netlist, WORDS};
 use cycles::lowest_cycle;
 use cycles::rings::lowest_ring;
 use netlist::{Answer, Element, Node, Refusal};
@@ -38,20 +38,22 @@ pub struct TableAnswer<'a> {
     pub words: &'a [u8],
 }
 
-// Checks 9 and 10; where neither refuses, the draft has an order.
-fn check_cycles(draft: &mut Draft) -> Result<(), Refusal>
-    requires { Sourced draft.old.net }
-    ensures file { draft.new.file ≡ draft.old.file }
-    ensures net { draft.new.net ≡ draft.old.net }
-    ensures verdict { said result ≡ verdict (from_nine draft.old.net) }
-    ensures complete { IfOk result (λ _. Complete in_clock draft.old.net draft.new.order) }
+// Checks 9 and 10; where neither refuses, the words have an order.
+fn check_cycles(file: &[u8], net: &mut [u16]) -> Result<(), Refusal>
+    requires circuit { Circuit file.now net.old }
+    requires sourced { Sourced (net_of file.now net.old) }
+    ensures net { net_of file.now net.new ≡ net_of file.now net.old }
+    ensures circuit { Circuit file.now net.new }
+    ensures verdict { said result ≡ verdict (from_nine (net_of file.now net.old)) }
+    ensures complete { IfOk result (λ _. Complete in_clock (net_of file.now net.old) (order_of net.new)) }
 {
-    let n = draft.node_count();
-    let loop_node = lowest_cycle(draft);
+    let loop_node = lowest_cycle(file, net);
+    let shown = Netlist::of(file, net);
+    let n = shown.node_count();
     if loop_node < n {
         return Err(Refusal::Loop(loop_node as u16));
     }
-    let ring_node = lowest_ring(&draft.shown());
+    let ring_node = lowest_ring(&shown);
     if ring_node < n {
         return Err(Refusal::Ring(ring_node as u16));
     }
@@ -59,52 +61,52 @@ fn check_cycles(draft: &mut Draft) -> Result<(), Refusal>
 }
 
 // Checks 6 to 10, and 17 among them.
-fn check_net(draft: &mut Draft) -> Result<(), Refusal>
-    ensures file { draft.new.file ≡ draft.old.file }
-    ensures net { draft.new.net ≡ draft.old.net }
-    ensures verdict { said result ≡ reader_verdict draft.old.net }
-    ensures complete { IfOk result (λ _. Complete in_clock draft.old.net draft.new.order) }
+fn check_net(file: &[u8], net: &mut [u16]) -> Result<(), Refusal>
+    requires { Circuit file.now net.old }
+    ensures net { net_of file.now net.new ≡ net_of file.now net.old }
+    ensures circuit { Circuit file.now net.new }
+    ensures verdict { said result ≡ reader_verdict (net_of file.now net.old) }
+    ensures complete { IfOk result (λ _. Complete in_clock (net_of file.now net.old) (order_of net.new)) }
 {
-    let net = draft.shown();
-    let n = net.node_count();
+    let shown = Netlist::of(file, net);
+    let n = shown.node_count();
     let mut marks = [0u8; 1024];
-    let source = lowest_bad_source(&net, &mut marks);
+    let source = lowest_bad_source(&shown, &mut marks);
     if source < n {
         return Err(Refusal::Source(source as u16));
     }
-    let width = lowest_bad_width(&net);
+    let width = lowest_bad_width(&shown);
     if width < n {
         return Err(Refusal::Width(width as u16));
     }
-    let unread = lowest_unread(&net, &marks);
+    let unread = lowest_unread(&shown, &marks);
     if unread < n {
         return Err(Refusal::Unread(unread as u16));
     }
-    let table = lowest_unread_table(&net);
-    if table < net.table_count() {
+    let table = lowest_unread_table(&shown);
+    if table < shown.table_count() {
         return Err(Refusal::UnreadTable(table as u16));
     }
-    check_cycles(draft)
+    check_cycles(file, net)
 }
 
-// Checks 1 to 10, and 17 among them: the file's netlist, in room that the caller lends.
-pub fn open_file<'f, 'n>(file: &'f [u8], net: &'n mut [u16]) -> Result<Draft<'f, 'n>, Refusal>
+// Checks 1 to 10, and 17 among them: the circuit of the file's netlist is left in the words lent, for whoever goes on.
+pub fn open_file(file: &[u8], net: &mut [u16]) -> Result<(), Refusal>
     requires { circuit_words ≤ length net.old }
-    ensures ok { IfOk result (λ d. OpenedAs file.now d) }
+    ensures ok { IfOk result (λ _. Open file.now net.new) }
     ensures err { IfErr result (λ r. file_verdict file.now ≡ Refuses (number_of r) (place_of r)) }
 {
-    let mut draft = fill_circuit(file, net)?;
-    check_net(&mut draft)?;
-    Ok(draft)
+    fill_circuit(file, net)?;
+    check_net(file, net)
 }
 
 // Checks a file: accepted with its length, or the refusal.
 pub fn check_file(file: &[u8]) -> Answer
     ensures { result ≡ check_answer file.now }
 {
-    let mut net = [0u16; WORDS];
-    match open_file(file, &mut net) {
-        Ok(_) => Answer::Accepted(file.len()),
+    let mut words = [0u16; WORDS];
+    match open_file(file, &mut words) {
+        Ok(()) => Answer::Accepted(file.len()),
         Err(r) => Answer::from(r),
     }
 }
@@ -114,9 +116,9 @@ fn find_node(file: &[u8], v: usize) -> Result<NodeAnswer, Refusal>
     ensures ok { IfOk result (λ found. found ≡ node_of_file file.now v) }
     ensures err { IfErr result (λ r. record { answer = refused r; node = no_node } ≡ node_of_file file.now v) }
 {
-    let mut net = [0u16; WORDS];
-    let draft = open_file(file, &mut net)?;
-    let net = draft.finish();
+    let mut words = [0u16; WORDS];
+    open_file(file, &mut words)?;
+    let net = Netlist::of(file, &words);
     let n = net.node_count();
     if v < n {
         Ok(NodeAnswer {
@@ -148,9 +150,9 @@ pub fn read_node(file: &[u8], v: usize) -> NodeAnswer
 fn place_of(file: &[u8], k: usize) -> Result<usize, Refusal>
     ensures { Placed file.now k result }
 {
-    let mut net = [0u16; WORDS];
-    let draft = open_file(file, &mut net)?;
-    let net = draft.finish();
+    let mut words = [0u16; WORDS];
+    open_file(file, &mut words)?;
+    let net = Netlist::of(file, &words);
     if k < net.table_count() {
         Ok(net.table_place(k))
     } else {
