@@ -6,7 +6,7 @@ pub mod reset;
 mod rows;
 
 ghost use Rattle.std.specs.Prelude.{◌≡◌, ◌*◌, ◌≤◌, ◌<◌, length};
-ghost use Rattle.circuit.specs.Circuit.{circuit_words};
+ghost use Rattle.circuit.specs.Circuit.{circuit_words, net_of, Circuit};
 ghost use Rattle.behaviour.specs.Run.{zero_word};
 ghost use Rattle.retiming.specs.Gates.{gated_with};
 ghost use Rattle.retiming.specs.Modes.{mode_timing};
@@ -17,7 +17,7 @@ ghost use Rattle.layout.specs.Layout.{IsPlanned, new_node};
 ghost use Rattle.layout.specs.NewRow.{RowOf};
 
 use added::gate_row;
-use circuit::{Draft, Netlist, Row};
+use circuit::{Netlist, Row, copy_head, push_row};
 use plan::{PLAN, SOURCES};
 use rows::{entry_row, register_row};
 use steering::Steered;
@@ -64,18 +64,18 @@ fn planned_row(from: &Layout, i: usize) -> Row
 }
 
 // The circuit of the new netlist.
-pub fn lay_circuit<'f, 'n>(
-    net: &Netlist<'f, '_>,
+pub fn lay_circuit(
+    net: &Netlist,
     made: Steered,
     plan: &[u16; PLAN],
     words: &[u16; 1024],
-    new: &'n mut [u16],
-) -> Draft<'f, 'n>
+    new: &mut [u16],
+)
     requires planned { PlannedBy net.now.net made plan.now words.now }
     requires few { made.total ≤ 1024 }
     requires room { circuit_words ≤ length new.old }
-    ensures file { result.file ≡ net.now.file }
-    ensures net { let N = net.now.net in result.net ≡ gated_with N (mode_timing made.mode N) (zero_word N) }
+    ensures net { let N = net.now.net in net_of net.now.file new.new ≡ gated_with N (mode_timing made.mode N) (zero_word N) }
+    ensures circuit { Circuit net.now.file new.new }
 {
     let from = Layout {
         net,
@@ -83,9 +83,9 @@ pub fn lay_circuit<'f, 'n>(
         plan,
         words,
     };
-    let mut draft = Draft::over(net, new);
+    let (file, old) = net.parts();
+    copy_head(file, old, new);
     for i in 0..made.total {
-        draft.push(planned_row(&from, i));
+        push_row(new, i, planned_row(&from, i));
     }
-    draft
 }

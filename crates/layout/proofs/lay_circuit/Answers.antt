@@ -1,44 +1,45 @@
-use Rattle.std.proofs.Common.{ℕ, ◌<◌, ◌≤◌, ap, ◌∙◌, arith}
-use Rattle.netlist.specs.Net.{size}
+-- The first nodes are in the new circuit.
+use Rattle.std.proofs.Common.{◌≡◌, refl, List, ℕ, subst, ap, ◌∙◌, arith}
+use Rattle.circuit.specs.Circuit.{tables_of, net_of, Circuit}
+use Rattle.circuit.specs.Building.{Built}
+use Rattle.circuit.specs.Shown.{Shown}
+use Rattle.circuit.proofs.Building.{building_none, building_size, building_more, building_done}
 use Rattle.behaviour.specs.Run.{zero_word}
 use Rattle.retiming.specs.Gates.{gated_with}
 use Rattle.retiming.specs.Modes.{mode_timing}
 use Rattle.retiming.proofs.Candidate.{size-new}
-use Rattle.layout.specs.Laid.{new_node_lem, new-tables}
-use Rattle.layout.proofs.FirstNodes.{first_none, first_size, first_more, first_all}
+use Rattle.layout.specs.Laid.{new_node_lem, laid}
 use Rattle.layout.proofs.lay_circuit.Goals as goal
 
 pub loop-i-init : goal.loop-i-init
-loop-i-init c =
-    let N = c.args.net.now.net in
-    let f = mode_timing c.args.made.mode N in
-    let o = c.over-draft.ensures in
-    record { file = o.file; net = o.net ∙ first_none (gated_with N f (zero_word N)) N (new-tables N f) }
+loop-i-init c = let k = c.copy_head.ensures in building_none _ (record { formed = k.formed; tables = refl; nodes = k.nodes })
 
-pub push-requires-clause-room : goal.push-requires-clause-room
-push-requires-clause-room c =
-    let N = c.args.net.now.net in
-    let f = mode_timing c.args.made.mode N in
-    let i : ℕ = c.loop-i.i in
-    let h : i ≤ size (gated_with N f (zero_word N)) = omega (arith, size-new N f (zero_word N), c.requires.planned.count, c.loop-i-test.true) in
-    omega (arith, ap size c.loop-i.invariant.net, first_size (gated_with N f (zero_word N)) i h, c.loop-i-test.true)
+pub push_row-requires-clause-formed : goal.push_row-requires-clause-formed
+push_row-requires-clause-formed c = c.loop-i.invariant.built.formed
+
+pub push_row-requires-clause-place : goal.push_row-requires-clause-place
+push_row-requires-clause-place c = building_size c.loop-i.invariant
 
 pub loop-i-preserved : goal.loop-i-preserved
 loop-i-preserved c =
     let N = c.args.net.now.net in
     let f = mode_timing c.args.made.mode N in
-    let i : ℕ = c.loop-i.i in
-    let k = c.loop-i.invariant in
     let count = c.requires.planned.count in
-    let h : i < size (gated_with N f (zero_word N)) = omega (arith, size-new N f (zero_word N), count, c.loop-i-test.true) in
-    let node = new_node_lem N f i (omega (arith, count, c.loop-i-test.true)) c.planned_row.ensures.1 in
-    record {
-      file = c.push.ensures.file ∙ k.file;
-      net = c.push.ensures.net ∙ first_more (gated_with N f (zero_word N)) i h k.net node;
-    }
+    let h = c.loop-i-test.true in
+    let node = new_node_lem N f c.loop-i.i (omega (arith, h, count)) c.planned_row.ensures.1 in
+    building_more c.loop-i.invariant (omega (arith, h, size-new N f (zero_word N), count)) node c.push_row.ensures
 
-pub returns-clause-net : goal.returns-clause-net
-returns-clause-net c =
+pub returns : goal.returns
+returns c =
     let N = c.args.net.now.net in
     let f = mode_timing c.args.made.mode N in
-    c.loop-i.invariant.net ∙ first_all (gated_with N f (zero_word N)) c.loop-i.i (omega (arith, size-new N f (zero_word N), c.requires.planned.count, c.loop-i-test.false))
+    let p = c.parts in
+    let b = building_done c.loop-i.invariant (omega (arith, c.loop-i-test.false, size-new N f (zero_word N), c.requires.planned.count)) in
+    let built : Built (tables_of p.result.1.now) (gated_with N f (zero_word N)).nodes c.loop-i.new = record { formed = b.formed; tables = b.tables ∙ c.copy_head.ensures.tables; nodes = b.nodes } in
+    let r = laid f (ap (λ (h : Shown). h.net) p.ensures.shown) p.ensures.circuit built in
+    let s = ap (λ (h : Shown). h.file) p.ensures.shown in
+    let new = c.loop-i.new in
+    record {
+      net = subst (λ (s : List ℕ). net_of s new ≡ gated_with N f (zero_word N)) s r.0;
+      circuit = subst (λ (s : List ℕ). Circuit s new) s r.1;
+    }
