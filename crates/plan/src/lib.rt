@@ -37,7 +37,7 @@ pub const SOURCES: usize = 4096;
 pub const PLAN: usize = 7168;
 
 // A word for each wire: the reset word that its root needs for it.
-const COPIED: usize = 3072;
+pub const COPIED: usize = 3072;
 
 // The mode, how many nodes come before the registers, and how many there are. Over 1,024 it is only known that there are so many, and no Option says it: make_plan
 // cannot fail (its clause `laid` speaks of such a total), and its steps, which stop there, count on from what they are given.
@@ -50,12 +50,12 @@ pub struct Plan {
 
 // What the plan is made from: a netlist in a mode, its timing, its wires, and for each wire the reset word that its root needs.
 #[derive(Clone, Copy)]
-struct Retiming<'a> {
-    net: &'a Netlist<'a, 'a>,
-    mode: Mode,
-    timing: &'a [u16; TIMING],
-    wires: &'a [u16; WIRES],
-    copied: &'a [u16; COPIED],
+pub struct Retiming<'a> {
+    pub net: &'a Netlist<'a, 'a>,
+    pub mode: Mode,
+    pub timing: &'a [u16; TIMING],
+    pub wires: &'a [u16; WIRES],
+    pub copied: &'a [u16; COPIED],
 }
 
 // Operand p of entry e.

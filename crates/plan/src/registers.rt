@@ -111,7 +111,7 @@ fn lay_entry(
 }
 
 // Lays all wires; gives the number of nodes. It gives up where there are more than 1,024.
-pub(crate) fn lay_wires(from: &Retiming, entries: usize, plan: &mut [u16; PLAN]) -> usize
+pub fn lay_wires(from: &Retiming, entries: usize, plan: &mut [u16; PLAN]) -> usize
     requires planned { IsPlanned from.now plan.old }
     requires entries { entries ≡ entry_count (net_of from.now) (timing_of from.now) }
     requires laid { LaysTo from.now plan.old 0 entries }
