@@ -20,6 +20,3 @@ pub returns-else-v-n-clause-err : goal.returns-else-v-n-clause-err
 returns-else-v-n-clause-err c =
     let o = subst (λ (h : Shown). ReadAs c.args.file.now h.net) (sym c.of-net.ensures) c.in_ok-open_file.ensures.ok.file in
     node_missing o _ c.node_count-n.ensures.count c.if-v-n.false
-
-pub of-net-requires : goal.of-net-requires
-of-net-requires c = c.in_ok-open_file.ensures.ok.circuit

@@ -21,6 +21,3 @@ pub returns-else-k-table_count : goal.returns-else-k-table_count
 returns-else-k-table_count c =
     let o = subst (λ (h : Shown). OpenedAs c.args.file.now h) (sym c.of-net.ensures) (open_shown c.in_ok-open_file.ensures.ok) in
     words_missing o.file _ c.table_count.ensures.count c.if-k-table_count.false
-
-pub of-net-requires : goal.of-net-requires
-of-net-requires c = c.in_ok-open_file.ensures.ok.circuit
