@@ -140,7 +140,8 @@ fn order_of(file: &[u8], net: &[u16], i: usize) -> usize
     field_of(file, net, i, TURN)
 }
 
-// Writes place i of the order: the circuit shows the same netlist.
+// Writes place i of the order: the circuit shows the same netlist. (Whoever writes is lent the words, here and below: of what a value with a model holds behind a
+// `&mut`, its lender would know nothing afterwards.)
 pub fn put_order(file: &[u8], net: &mut [u16], i: usize, x: u16)
     requires circuit { Circuit file.now net.old }
     requires node { i < size (net_of file.now net.old) }
