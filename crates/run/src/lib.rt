@@ -115,8 +115,9 @@ fn open_and_reset(file: &[u8], state: &mut [u8]) -> Result<usize, Refusal>
     ensures answer { answered result ≡ (reset_file file.now state.old).answer }
     ensures state { state.new ≡ (reset_file file.now state.old).state }
 {
-    let mut net = [0u16; WORDS];
-    let net = open_file(file, &mut net)?.finish();
+    let mut words = [0u16; WORDS];
+    open_file(file, &mut words)?;
+    let net = Netlist::of(file, &words);
     reset_opened(&net, state)
 }
 
@@ -139,8 +140,9 @@ fn open_and_run(
     ensures state { state.new ≡ (run_file file.now state.old inputs.now outputs.old).state }
     ensures outputs { outputs.new ≡ (run_file file.now state.old inputs.now outputs.old).outputs }
 {
-    let mut net = [0u16; WORDS];
-    let net = open_file(file, &mut net)?.finish();
+    let mut words = [0u16; WORDS];
+    open_file(file, &mut words)?;
+    let net = Netlist::of(file, &words);
     run_opened(&net, state, inputs, outputs)
 }
 

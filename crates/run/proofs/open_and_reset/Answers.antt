@@ -2,7 +2,7 @@
 use Rattle.std.proofs.Common.{sym, subst, ◌∙◌}
 use Rattle.std.proofs.lemmas.Result.{err_from_is_err_and}
 use Rattle.circuit.specs.Shown.{Shown}
-use Rattle.checks.specs.Open.{OpenedAs}
+use Rattle.checks.specs.Open.{OpenedAs, open_shown}
 use Rattle.behaviour.proofs.Parts.{filled}
 use Rattle.run.proofs.Opened.{reset_turned_away, reset_taken}
 use Rattle.run.proofs.open_and_reset.Goals as goal
@@ -16,9 +16,12 @@ returns-in_err-open_file c =
       state = o.1;
     }
 
+pub of-net-requires : goal.of-net-requires
+of-net-requires c = c.in_ok-open_file.ensures.ok.circuit
+
 pub returns : goal.returns
 returns c =
-    let o = filled (reset_taken (subst (λ (h : Shown). OpenedAs c.args.file.now h) (sym c.finish-net.ensures) c.in_ok-open_file.ensures.ok) c.args.state.now) in
+    let o = filled (reset_taken (subst (λ (h : Shown). OpenedAs c.args.file.now h) (sym c.of-net.ensures) (open_shown c.in_ok-open_file.ensures.ok)) c.args.state.now) in
     record {
       answer = c.reset_opened.ensures.answer ∙ o.0;
       state = c.reset_opened.ensures.state ∙ o.1;
