@@ -6,6 +6,7 @@ ghost use Rattle.lists.specs.Lists.{below, concat_map};
 ghost use Rattle.netlist.specs.Net.{size};
 ghost use Rattle.netlist.specs.Checks.{WellFormed};
 ghost use Rattle.netlist.specs.Refusal.{said, answered};
+ghost use Rattle.circuit.specs.Circuit.{net_of, Circuit};
 ghost use Rattle.behaviour.specs.Runs.{input_widths, output_widths, state_widths, fitting};
 ghost use Rattle.behaviour.specs.Service.{bytes_of, words_in};
 ghost use Rattle.behaviour.specs.RunList.{room_for_rows, fitting_rows, list_verdict, run_list_file};
@@ -18,7 +19,7 @@ ghost use Rattle.run_list.specs.Clocks.{shown_at};
 ghost use Rattle.run_list.specs.ListNet.{list_net, Asked};
 
 use checks::open_file;
-use circuit::{Draft, Netlist};
+use circuit::Netlist;
 use evaluate::Row;
 use evaluate::lent::{load_row, row_members};
 use grouping::group_nodes;
@@ -164,21 +165,23 @@ fn run_clocks(net: &Netlist, state: &mut [u8], inputs: &[u8], outputs: &mut [u8]
 // A list of runs over an opened file; gives the length of the outputs. Its nodes are put into an order in which equal operations stand together, since they are gone
 // through many times.
 fn list_opened(
-    draft: &mut Draft,
+    file: &[u8],
+    net: &mut [u16],
     state: &mut [u8],
     inputs: &[u8],
     outputs: &mut [u8],
     clocks: usize,
 ) -> Result<usize, Refusal>
-    requires formed { WellFormed draft.old.net }
-    requires inside { Inside draft.old.net }
-    ensures answer { answered result ≡ (list_net draft.old.net state.old inputs.now outputs.old clocks).answer }
-    ensures state { state.new ≡ (list_net draft.old.net state.old inputs.now outputs.old clocks).state }
-    ensures outputs { outputs.new ≡ (list_net draft.old.net state.old inputs.now outputs.old clocks).outputs }
+    requires circuit { Circuit file.now net.old }
+    requires formed { WellFormed (net_of file.now net.old) }
+    requires inside { Inside (net_of file.now net.old) }
+    ensures answer { answered result ≡ (list_net (net_of file.now net.old) state.old inputs.now outputs.old clocks).answer }
+    ensures state { state.new ≡ (list_net (net_of file.now net.old) state.old inputs.now outputs.old clocks).state }
+    ensures outputs { outputs.new ≡ (list_net (net_of file.now net.old) state.old inputs.now outputs.old clocks).outputs }
 {
-    check_list(&draft.shown(), state, inputs, outputs, clocks)?;
-    group_nodes(draft);
-    run_clocks(&draft.shown(), state, inputs, outputs, clocks);
+    check_list(&Netlist::of(file, net), state, inputs, outputs, clocks)?;
+    group_nodes(file, net);
+    run_clocks(&Netlist::of(file, net), state, inputs, outputs, clocks);
     Ok(outputs.len())
 }
 
@@ -196,7 +199,7 @@ pub fn run_list(
 {
     let mut net = [0u16; circuit::WORDS];
     match open_file(file, &mut net) {
-        Ok(mut draft) => Answer::from(list_opened(&mut draft, state, inputs, outputs, clocks)),
+        Ok(()) => Answer::from(list_opened(file, &mut net, state, inputs, outputs, clocks)),
         Err(r) => Answer::from(r),
     }
 }
