@@ -1,4 +1,5 @@
 -- What the steps up to 13 tell of one another, check by check, over plain values. Assumes nothing.
+use Rattle.std.specs.Prelude.{Result}
 use mathlib.Core.Path.{◌≡◌, sym, ap, subst, ◌∙◌}
 use mathlib.Core.Bool.{true, false}
 use mathlib.Core.List.{List}
@@ -13,8 +14,10 @@ use Rattle.netlist.specs.Checks.{HasTables, WellFormed}
 use Rattle.netlist.specs.Verdict.{verdict, onward, Verdict, Fine, Refuses}
 use Rattle.netlist.proofs.VerdictLaws.{fine_clear}
 use Rattle.netlist.specs.File.{Decoded, decode, decoded_net, judged, file_verdict}
+use Rattle.netlist.specs.declared.Refusal.{Refusal}
+use Rattle.circuit.specs.Circuit.{net_of}
 use Rattle.circuit.specs.Shown.{Shown}
-use Rattle.checks.specs.Open.{OpenedAs}
+use Rattle.checks.specs.Open.{Open, OpenedAs, open_shown}
 use Rattle.behaviour.specs.Run.{zero_word}
 use Rattle.retiming.specs.declared.Mode.{Mode}
 use Rattle.retiming.specs.Gates.{spots, gated_with}
@@ -29,7 +32,7 @@ use Rattle.leads.specs.Debts.{debts_verdict, debts_first}
 use Rattle.leads.specs.Settled.{LeadsIn}
 use Rattle.wires.specs.Traced.{roots_in, passes_in, AllTraced}
 use Rattle.wiring.specs.Wiring.{Timed}
-use Rattle.retime.specs.Laying.{grown_verdict, NewIs}
+use Rattle.retime.specs.Laying.{grown_verdict, NewIs, IsCircuit, retimed_by, Lays, LaysFile}
 
 -- ---- 13: the plan was made in the mode that is asked for
 
@@ -45,8 +48,8 @@ module _ (mode : Mode) (N : Net) (is : NewIs mode N) {made : Mode} (same : made 
   unfolding grown_verdict verdict grown
   says_fine h = let g : ltb 1024 (size (mode_net mode N)) ≡ false = le-ltb 1024 (size (mode_net mode N)) (omega (arith, new-size)) in sym (rw (g, verdict))
 
-  pub laid_as : {M : Net} → M ≡ gated_with N (mode_timing made N) (zero_word N) → M ≡ gated_with N (mode_timing mode N) (zero_word N)
-  laid_as n = n ∙ ap (λ (m : Mode). gated_with N (mode_timing m N) (zero_word N)) same
+  pub laid_as : {s l : List ℕ} → IsCircuit s l (gated_with N (mode_timing made N) (zero_word N)) → IsCircuit s l (gated_with N (mode_timing mode N) (zero_word N))
+  laid_as (n, k) = (n ∙ ap (λ (m : Mode). gated_with N (mode_timing m N) (zero_word N)) same, k)
 
 module _ (mode : Mode) (N : Net) (is : NewIs mode N) {M : Net} (n : M ≡ gated_with N (mode_timing mode N) (zero_word N)) where
   -- where 13 is not said, each ROM that is laid has its table
@@ -64,6 +67,10 @@ module _ (mode : Mode) (N : Net) where
   onwards : onward (debts_verdict mode N) (grown_verdict mode N) ≡ mode_verdict mode N
   unfolding grown_verdict
   onwards = sym (debts_first mode N)
+
+  -- so is the answer
+  pub by_debts : {v w : Verdict} → v ≡ debts_verdict mode N → v ≡ w → retimed_by mode (onward w (grown_verdict mode N)) N ≡ retimed_by mode (mode_verdict mode N) N
+  by_debts e q = ap (λ (w : Verdict). retimed_by mode w N) (ap (λ (w : Verdict). onward w (grown_verdict mode N)) (sym q ∙ e) ∙ onwards)
 
   -- where they are said
   pub debts_say : {k p : ℕ} → Refuses k p ≡ debts_verdict mode N → Refuses k p ≡ mode_verdict mode N
@@ -108,3 +115,12 @@ module _ (mode : Mode) where
         sym (mode_judged mode s
         ∙ ap (λ (d : Decoded). onward (judged d) (mode_verdict mode (decoded_net d))) o.file.reads
         ∙ ap (λ (v : Verdict). onward v (mode_verdict mode h.net)) o.file.fine)
+
+  module _ {s net : List ℕ} (o : Open s net) where
+    taken_as : retimed_by mode (mode_verdict mode (net_of s net)) (net_of s net) ≡ retimed_by mode (mode_file_verdict mode s) (decoded_net (decode s))
+    taken_as =
+        ap (λ (v : Verdict). retimed_by mode v (net_of s net)) (opened_verdict (open_shown o))
+        ∙ ap (λ (d : Decoded). retimed_by mode (mode_file_verdict mode s) (decoded_net d)) (sym o.file.reads)
+
+    pub file-taken : {l : List ℕ} {r : Result ℕ Refusal} → Lays s l mode (net_of s net) (retimed_by mode (mode_verdict mode (net_of s net)) (net_of s net)) r → LaysFile mode s l r
+    file-taken (t, laid) = (t ∙ taken_as, λ m e. let h = laid m e in (h.0 ∙ ap (λ (d : Decoded). mode_net mode (decoded_net d)) (sym o.file.reads), h.1))

@@ -1,4 +1,4 @@
-// The new netlist of a file: checks 1 to 13, in either mode. The preview tells its size, and the rewriter writes it.
+// The new netlist of a file as a circuit: checks 1 to 13, in either mode. The preview tells its size, and the rewriter writes it.
 #![tactic(auto)]
 
 ghost use Rattle.std.specs.Prelude.{◌≡◌, false, ◌≤◌, length, IfOk};
@@ -6,7 +6,7 @@ ghost use Rattle.netlist.specs.Net.{in_clock};
 ghost use Rattle.netlist.specs.Checks.{HasTables, WellFormed};
 ghost use Rattle.netlist.specs.File.{decode, decoded_net};
 ghost use Rattle.netlist.specs.Refusal.{said};
-ghost use Rattle.circuit.specs.Circuit.{circuit_words};
+ghost use Rattle.circuit.specs.Circuit.{circuit_words, net_of, Circuit};
 ghost use Rattle.circuit.specs.Order.{Complete};
 ghost use Rattle.evaluate.specs.Clock.{Inside};
 ghost use Rattle.behaviour.specs.Run.{zero_word};
@@ -16,7 +16,7 @@ ghost use Rattle.wiring.specs.Wiring.{Timed};
 ghost use Rattle.retime.specs.Laying.{grown_verdict, mode_lead, NewIs};
 
 use checks::open_file;
-use circuit::{Draft, Netlist, WORDS};
+use circuit::{Netlist, WORDS};
 use first_clocks::{QUEUE, first_clock};
 use layout::lay_circuit;
 use layout::reset::reset_words;
@@ -30,33 +30,26 @@ use trimming::trim_tables;
 use wires::{TIMING, find_roots};
 use wiring::WIRES;
 
-// The new netlist, and in the plain mode the largest lead of the one that it was made from.
-#[derive(Drop)]
-pub struct Retimed<'f, 'n> {
-    pub net: Netlist<'f, 'n>,
-    pub lead: u16,
-}
-
-// 13, of a netlist whose timing is known: the first clock, the plan, the gates, the reset words; then the new netlist.
-fn lay_timed<'f, 'n>(
-    net: &Netlist<'f, '_>,
+// 13, of a netlist whose timing is known: the first clock, the plan, the gates, the reset words; then the circuit.
+fn lay_timed(
+    net: &Netlist,
     mode: Mode,
     timing: &[u16; TIMING],
-    new: &'n mut [u16],
-) -> Result<Draft<'f, 'n>, Refusal>
+    new: &mut [u16],
+) -> Result<(), Refusal>
     requires timed { let N = net.now.net in Timed N (mode_timing mode N) timing.now }
     requires inside { Inside net.now.net }
     requires complete { Complete in_clock net.now.net net.now.order }
     requires new_is { NewIs mode net.now.net }
     requires room { circuit_words ≤ length new.old }
     ensures verdict { said result ≡ grown_verdict mode net.now.net }
-    ensures file { IfOk result (λ d. d.file ≡ net.now.file) }
-    ensures net { let N = net.now.net in IfOk result (λ d. d.net ≡ gated_with N (mode_timing mode N) (zero_word N)) }
+    ensures net { let N = net.now.net in IfOk result (λ _. net_of net.now.file new.new ≡ gated_with N (mode_timing mode N) (zero_word N)) }
+    ensures circuit { IfOk result (λ _. Circuit net.now.file new.new) }
 {
     let mut start = [0u16; 1024];
     first_clock(net, &mut start);
     let mut plan = [0u16; PLAN];
-    // Until the new netlist is laid, its room is the wires', and then the queue's.
+    // Until the circuit is laid, its area is the wires', and then the queue's.
     let made = make_plan(net, mode, timing, &start, &mut new[..WIRES], &mut plan);
     let steered = add_gates(net, timing, made, &mut plan);
     let total = steered.total;
@@ -74,18 +67,20 @@ fn lay_timed<'f, 'n>(
         &mut new[..QUEUE],
         &mut words,
     );
-    Ok(lay_circuit(net, steered, &plan, &words, new))
+    lay_circuit(net, steered, &plan, &words, new);
+    Ok(())
 }
 
-// Leaves out the tables that no node of the new netlist reads. The plain mode has none such. (A `match` on the mode, here and below: a closure would be no plainer.)
-fn leave_out_tables(mode: Mode, draft: &mut Draft)
-    requires { HasTables draft.old.net }
-    ensures file { draft.new.file ≡ draft.old.file }
-    ensures net { draft.new.net ≡ mode_trimmed mode draft.old.net }
+// Leaves out the tables that no node of the new circuit reads. The plain mode has none such. (A `match` on the mode, here and below: a closure would be no plainer.)
+fn leave_out_tables(file: &[u8], mode: Mode, new: &mut [u16])
+    requires circuit { Circuit file.now new.old }
+    requires tables { HasTables (net_of file.now new.old) }
+    ensures net { net_of file.now new.new ≡ mode_trimmed mode (net_of file.now new.old) }
+    ensures circuit { Circuit file.now new.new }
 {
     match mode {
         Mode::Plain => {}
-        Mode::Late => trim_tables(draft),
+        Mode::Late => trim_tables(file, new),
     }
 }
 
@@ -102,12 +97,12 @@ fn lead_told(net: &Netlist, mode: Mode, timing: &[u16; TIMING]) -> u16
 }
 
 // 13, then what the mode leaves out, and what is told of the leads.
-fn retime_timed<'f, 'n>(
-    net: &Netlist<'f, '_>,
+fn retime_timed(
+    net: &Netlist,
     mode: Mode,
     timing: &[u16; TIMING],
-    new: &'n mut [u16],
-) -> Result<Retimed<'f, 'n>, Refusal>
+    new: &mut [u16],
+) -> Result<u16, Refusal>
     requires timed { let N = net.now.net in Timed N (mode_timing mode N) timing.now }
     requires inside { Inside net.now.net }
     requires complete { Complete in_clock net.now.net net.now.order }
@@ -115,32 +110,25 @@ fn retime_timed<'f, 'n>(
     requires no_debt { mode_closed mode net.now.net ≡ false }
     requires room { circuit_words ≤ length new.old }
     ensures verdict { said result ≡ grown_verdict mode net.now.net }
-    ensures file { IfOk result (λ r. r.net.file ≡ net.now.file) }
-    ensures net { IfOk result (λ r. r.net.net ≡ mode_net mode net.now.net) }
-    ensures lead { IfOk result (λ r. r.lead ≡ mode_lead mode net.now.net) }
+    ensures net { IfOk result (λ _. net_of net.now.file new.new ≡ mode_net mode net.now.net) }
+    ensures circuit { IfOk result (λ _. Circuit net.now.file new.new) }
+    ensures lead { IfOk result (λ lead. lead ≡ mode_lead mode net.now.net) }
 {
-    let mut draft = lay_timed(net, mode, timing, new)?;
-    leave_out_tables(mode, &mut draft);
-    Ok(Retimed {
-        net: draft.finish(),
-        lead: lead_told(net, mode, timing),
-    })
+    lay_timed(net, mode, timing, new)?;
+    leave_out_tables(net.file(), mode, new);
+    Ok(lead_told(net, mode, timing))
 }
 
 // 11 to 13, of a netlist that the reader takes: its leads, then its wires.
-fn retime_opened<'f, 'n>(
-    net: &Netlist<'f, '_>,
-    mode: Mode,
-    new: &'n mut [u16],
-) -> Result<Retimed<'f, 'n>, Refusal>
+fn retime_opened(net: &Netlist, mode: Mode, new: &mut [u16]) -> Result<u16, Refusal>
     requires formed { WellFormed net.now.net }
     requires inside { Inside net.now.net }
     requires complete { Complete in_clock net.now.net net.now.order }
     requires room { circuit_words ≤ length new.old }
     ensures verdict { said result ≡ mode_verdict mode net.now.net }
-    ensures file { IfOk result (λ r. r.net.file ≡ net.now.file) }
-    ensures net { IfOk result (λ r. r.net.net ≡ mode_net mode net.now.net) }
-    ensures lead { IfOk result (λ r. r.lead ≡ mode_lead mode net.now.net) }
+    ensures net { IfOk result (λ _. net_of net.now.file new.new ≡ mode_net mode net.now.net) }
+    ensures circuit { IfOk result (λ _. Circuit net.now.file new.new) }
+    ensures lead { IfOk result (λ lead. lead ≡ mode_lead mode net.now.net) }
 {
     let mut timing = [0u16; TIMING];
     find_leads(net, mode, &mut timing)?;
@@ -148,19 +136,15 @@ fn retime_opened<'f, 'n>(
     retime_timed(net, mode, &timing, new)
 }
 
-// Lays the new netlist of a file in room that the caller lends; or says the refusal, 1 to 13, and nothing of the room.
-pub fn retime_file<'f, 'n>(
-    file: &'f [u8],
-    mode: Mode,
-    new: &'n mut [u16],
-) -> Result<Retimed<'f, 'n>, Refusal>
+// Lays the new netlist of a file as a circuit, and answers the largest lead, which is of the plain mode; or says the refusal, 1 to 13, and nothing of the area.
+pub fn retime_file(file: &[u8], mode: Mode, new: &mut [u16]) -> Result<u16, Refusal>
     requires { circuit_words ≤ length new.old }
     ensures verdict { said result ≡ mode_file_verdict mode file.now }
-    ensures file { IfOk result (λ r. r.net.file ≡ file.now) }
-    ensures net { IfOk result (λ r. r.net.net ≡ mode_net mode (decoded_net (decode file.now))) }
-    ensures lead { IfOk result (λ r. r.lead ≡ mode_lead mode (decoded_net (decode file.now))) }
+    ensures net { IfOk result (λ _. net_of file.now new.new ≡ mode_net mode (decoded_net (decode file.now))) }
+    ensures circuit { IfOk result (λ _. Circuit file.now new.new) }
+    ensures lead { IfOk result (λ lead. lead ≡ mode_lead mode (decoded_net (decode file.now))) }
 {
     let mut words = [0u16; WORDS];
-    let net = open_file(file, &mut words)?.finish();
-    retime_opened(&net, mode, new)
+    open_file(file, &mut words)?;
+    retime_opened(&Netlist::of(file, &words), mode, new)
 }

@@ -31,4 +31,6 @@ returns-clause-verdict c =
     says_fine _ _ c.requires.new_is (c.add_gates-steered.ensures.mode ∙ c.make_plan-made.ensures.mode) (omega (arith, c.reset_words.ensures.count, c.if-grown.false))
 
 pub returns-clause-net : goal.returns-clause-net
-returns-clause-net c = laid_as _ _ c.requires.new_is (c.add_gates-steered.ensures.mode ∙ c.make_plan-made.ensures.mode) c.lay_circuit.ensures.net
+returns-clause-net c =
+    let laid = c.lay_circuit.ensures in
+    (laid_as _ _ c.requires.new_is (c.add_gates-steered.ensures.mode ∙ c.make_plan-made.ensures.mode) (laid.net, laid.circuit)).0

@@ -7,6 +7,7 @@ use Rattle.circuit.specs.Shown.{Shown}
 use Rattle.netlist.specs.Checks.{WellFormed}
 use Rattle.evaluate.specs.Clock.{Inside}
 use Rattle.retiming.specs.Modes.{mode_verdict}
+use Rattle.checks.specs.Open.{open_shown}
 use Rattle.checks.specs.Opens.{open_formed, open_inside}
 use Rattle.retime.proofs.LayingLaws.{file-refused, opened_verdict}
 use Rattle.retime.proofs.retime_file.Goals as goal
@@ -19,13 +20,13 @@ returns-in_err-open_file-clause-verdict c =
 pub retime_opened-requires-clause-formed : goal.retime_opened-requires-clause-formed
 retime_opened-requires-clause-formed c =
     let bytes : Bytes c.args.file.now = λ i. omega (arith, c.type_inv.file i) in
-    subst (λ (h : Shown). WellFormed h.net) (sym c.finish-net.ensures) (open_formed bytes c.in_ok-open_file.ensures.ok)
+    subst (λ (h : Shown). WellFormed h.net) (sym c.of.ensures) (open_formed bytes (open_shown c.in_ok-open_file.ensures.ok))
 
 pub retime_opened-requires-clause-inside : goal.retime_opened-requires-clause-inside
 retime_opened-requires-clause-inside c =
     let bytes : Bytes c.args.file.now = λ i. omega (arith, c.type_inv.file i) in
-    subst (λ (h : Shown). Inside h.net) (sym c.finish-net.ensures) (open_inside bytes c.in_ok-open_file.ensures.ok)
+    subst (λ (h : Shown). Inside h.net) (sym c.of.ensures) (open_inside bytes (open_shown c.in_ok-open_file.ensures.ok))
 
 pub returns-clause-verdict : goal.returns-clause-verdict
 returns-clause-verdict c =
-    c.retime_opened.ensures.verdict ∙ ap (λ (h : Shown). mode_verdict c.args.mode h.net) c.finish-net.ensures ∙ opened_verdict c.args.mode c.in_ok-open_file.ensures.ok
+    c.retime_opened.ensures.verdict ∙ ap (λ (h : Shown). mode_verdict c.args.mode h.net) c.of.ensures ∙ opened_verdict c.args.mode (open_shown c.in_ok-open_file.ensures.ok)
