@@ -60,9 +60,9 @@ module _ (s l : List ℕ) (mode : Mode) (N : Net) where
 
 -- from the four clauses of the code
 module _ (mode : Mode) (s l : List ℕ) where
-  pub lays_file : (r : Result ℕ Refusal) → said r ≡ mode_file_verdict mode s → IfOk r (λ m. net_of s l ≡ mode_net mode (decoded_net (decode s))) → IfOk r (λ m. Circuit s l)
+  pub lays_file : (r : Result ℕ Refusal) → said r ≡ mode_file_verdict mode s → IfOk r (λ _. net_of s l ≡ mode_net mode (decoded_net (decode s))) → IfOk r (λ _. Circuit s l)
       → IfOk r (λ m. m ≡ mode_lead mode (decoded_net (decode s))) → LaysFile mode s l r
-  lays_file (Ok m) v n k e = let N = decoded_net (decode s) in (ap Accepted e ∙ ap (λ (w : Verdict). retimed_by mode w N) v, λ j q. (n, k))
+  lays_file (Ok m) v n k e = (ap Accepted e ∙ ap (λ (w : Verdict). retimed_by mode w (decoded_net (decode s))) v, λ j q. (n, k))
   lays_file (Err x) v n k e = let N = decoded_net (decode s) in lays_none s l mode N (ap (λ (w : Verdict). retimed_by mode w N) v)
 
 -- ---- what the answer tells of the verdict

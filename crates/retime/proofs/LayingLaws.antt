@@ -68,7 +68,7 @@ module _ (mode : Mode) (N : Net) where
   unfolding grown_verdict
   onwards = sym (debts_first mode N)
 
-  -- so is the answer
+  -- what is told goes by the verdict
   pub by_debts : {v w : Verdict} → v ≡ debts_verdict mode N → v ≡ w → retimed_by mode (onward w (grown_verdict mode N)) N ≡ retimed_by mode (mode_verdict mode N) N
   by_debts e q = ap (λ (w : Verdict). retimed_by mode w N) (ap (λ (w : Verdict). onward w (grown_verdict mode N)) (sym q ∙ e) ∙ onwards)
 
