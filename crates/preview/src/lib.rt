@@ -36,13 +36,14 @@ fn measure_into(file: &[u8], list: &mut [u8]) -> Result<Size, Refusal>
     ensures list { list.new ≡ (preview_file file.now list.old).list }
 {
     let mut words = [0u16; WORDS];
-    let new = retime_file(file, Mode::Plain, &mut words)?;
-    let size = measure(&new.net, new.lead);
+    let lead = retime_file(file, Mode::Plain, &mut words)?;
+    let new = Netlist::of(file, &words);
+    let size = measure(&new, lead);
     let sources = size.sources as usize;
     if list.len() < 2 * sources {
         return Err(Refusal::Out);
     }
-    list_sources(&new.net, sources, list);
+    list_sources(&new, sources, list);
     Ok(size)
 }
 
