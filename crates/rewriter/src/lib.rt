@@ -7,7 +7,7 @@ ghost use Rattle.retiming.specs.FileRewrite.{rewrite_file};
 ghost use Rattle.retiming.specs.LateFile.{late_rewrite};
 ghost use Rattle.retiming.specs.Modes.{mode_rewrite};
 
-use circuit::WORDS;
+use circuit::{Netlist, WORDS};
 use netlist::{Answer, Refusal};
 use retime::retime_file;
 use retiming::Mode;
@@ -19,12 +19,13 @@ fn rewrite_into(file: &[u8], mode: Mode, out: &mut [u8]) -> Result<usize, Refusa
     ensures out { out.new ≡ (mode_rewrite mode file.now out.old).out }
 {
     let mut words = [0u16; WORDS];
-    let new = retime_file(file, mode, &mut words)?;
-    let length = circuit_length(&new.net);
+    retime_file(file, mode, &mut words)?;
+    let new = Netlist::of(file, &words);
+    let length = circuit_length(&new);
     if out.len() < length {
         return Err(Refusal::Out);
     }
-    Ok(write_circuit(&new.net, out))
+    Ok(write_circuit(&new, out))
 }
 
 // Rewrites a file in a mode into the output: accepted with the new file's length, or the refusal, after which no byte of the output differs.
