@@ -43,13 +43,15 @@ fn put_word(out: &mut [u8], at: usize, w: u16) -> usize
     put_byte(out, next, (w % 256) as u8)
 }
 
-// Bytes as they are.
+// Bytes as they are. (One by one: `copy_from_slice` would have the library for C ask its host for a `memmove`.)
 fn put_bytes(out: &mut [u8], at: usize, from: &[u8]) -> usize
     requires { at + length from.now ≤ length out.old }
     ensures { Puts out.old at from.now result out.new }
 {
-    let next = at + from.len();
-    out[at..next].copy_from_slice(from);
+    let mut next = at;
+    for i in 0..from.len() {
+        next = put_byte(out, next, from[i]);
+    }
     next
 }
 

@@ -1,25 +1,16 @@
--- The bytes stand between the front and what was behind them.
-use mathlib.Core.Path.{◌≡◌, refl, sym, ap, ◌∙◌}
-use mathlib.Core.List.{◌++◌, append_assoc}
-use Prim.Native.Nat.{ℕ, ◌+◌, ◌-◌}
+-- Turn by turn one byte more is written.
+use mathlib.Core.Path.{refl}
+use native.Mathlib.Numerals.{add-one}
 use native.Mathlib.Omega.{arith}
-use Rattle.std.proofs.Common.{drop-drop}
-use lib.ListN.{length, take, drop}
-use Rattle.std.specs.Prelude.{List}
-use Rattle.writer.specs.Written.{written}
+use lib.Seq.{take-suc}
+use Rattle.writer.specs.Turn.{start, turns}
 use Rattle.writer.proofs.put_bytes.Goals as goal
 
-pub returns : goal.returns
-unfolding written
-returns c =
-    let o = c.args.out.now in
-    let at = c.args.at in
-    let b = c.args.from.now in
-    let room : ℕ = at + length b - at in
-    let ends : at + room ≡ at + length b = omega arith in
-    record {
-      offset = refl;
-      holds = ap (λ (l : List ℕ). take at o ++ (l ++ drop room (drop at o))) c.copy_from_slice.ensures.after
-          ∙ ap (λ (l : List ℕ). take at o ++ (b ++ l)) (drop-drop room at o ∙ ap (λ (n : ℕ). drop n o) ends)
-          ∙ sym (append_assoc (take at o) b (drop (at + length b) o));
-    }
+pub loop-i-init : goal.loop-i-init
+loop-i-init c = start (omega arith)
+
+pub loop-i-preserved : goal.loop-i-preserved
+loop-i-preserved c =
+    let turn = c.loop-i in
+    let more = take-suc c.args.from.now turn.i 0 (omega arith) in
+    turns turn.invariant c.put_byte-next.ensures (rw add-one more) refl (omega arith)
