@@ -64,14 +64,14 @@ fn node_word(net: &Netlist, v: usize, words: &[u16]) -> u16
     requires not_loaded { loaded (element_at net.now.net v) ≡ false }
     ensures { result ≡ node_word net.now.net words.now v }
 {
-    // Whatever a gate may ask for is read first and on no condition, so that it does not wait for the jump by the code.
+    // Whatever a gate may ask for is read first and on no condition, so that it does not wait for the jump by the code; but for its width, which would take the
+    // register that has a ROM's address at hand.
     let one = net.source(v, 0);
     let two = net.source(v, 1);
     let three = net.source(v, 2);
     let first = words[one];
     let second = words[two];
     let third = words[three];
-    let width = net.width(v) as u8;
     let below = net.width(two) as u8;
     let number = net.number(v) as u16;
     // By the code: by the element a run took 3.3 % longer than before, past the bar of 3 %.
@@ -79,9 +79,16 @@ fn node_word(net: &Netlist, v: usize, words: &[u16]) -> u16
     match code {
         OUTPUT => first,
         ASYNC_ROM => memory_word(net, v, first),
-        CONSTANT => gate(Op::Constant(number), width, below, first, second, third),
-        PART => gate(Op::Part(number as u8), width, below, first, second, third),
+        CONSTANT => {
+            let width = net.width(v) as u8;
+            gate(Op::Constant(number), width, below, first, second, third)
+        }
+        PART => {
+            let width = net.width(v) as u8;
+            gate(Op::Part(number as u8), width, below, first, second, third)
+        }
         _ => {
+            let width = net.width(v) as u8;
             let op = plain_op((code - GATE) as u8);
             gate(op, width, below, first, second, third)
         }
