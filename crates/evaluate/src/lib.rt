@@ -11,9 +11,9 @@ ghost use Rattle.evaluate.specs.Rows.{row_test, RowFits};
 ghost use Rattle.evaluate.specs.Clock.{loaded, node_word, Inside, OperandsFit, Evaluated};
 ghost use Rattle.evaluate.specs.Next.{next_word, WordsFit};
 
-use areas::at_or;
+use areas::{at_or, put};
 use circuit::Netlist;
-use circuit::codes::{ASYNC_ROM, CONSTANT, GATE, OUTPUT, PART};
+use circuit::codes::{ASYNC_ROM, CLOCKED_ROM, CONSTANT, GATE, INPUT, OUTPUT, PART, REGISTER};
 use gates::gate;
 use nodes::plain_op;
 use words::Op;
@@ -45,12 +45,17 @@ fn holds_word(net: &Netlist, v: usize) -> bool
     net.is_register(v) | net.is_clocked_rom(v)
 }
 
-// Whether node v keeps the word that was loaded.
+// Whether node v keeps the word that was loaded: an input port, a register, a clocked ROM. (By the code, in one match: a test for each kind made the loop over the
+// nodes slower.)
+#[tactic(auto, using(crate::specs::Coded::loaded_code, crate::specs::Coded::other_code))]
 fn is_loaded(net: &Netlist, v: usize) -> bool
     requires { v < size net.now.net }
     ensures { result ≡ loaded (element_at net.now.net v) }
 {
-    net.is_input(v) | holds_word(net, v)
+    match net.code(v) {
+        INPUT | REGISTER | CLOCKED_ROM => true,
+        _ => false,
+    }
 }
 
 // The word of node v, which was not loaded, from its sources' words.
@@ -109,7 +114,8 @@ pub fn evaluate(net: &Netlist, words: &mut [u16])
     evaluate_all(Netlist::of(file, rows), words);
 }
 
-// The same of a netlist by value: behind a reference, where file and rows stand would be read again after each word that is written.
+// The same of a netlist by value: behind a reference, where file and rows stand would be read again after each word that is written. (`put`, and no index: the
+// loop is quicker so.)
 fn evaluate_all(net: Netlist, words: &mut [u16])
     requires formed { WellFormed net.net }
     requires inside { Inside net.net }
@@ -122,7 +128,7 @@ fn evaluate_all(net: Netlist, words: &mut [u16])
     for i in 0..net.node_count() {
         let v = net.turn(i);
         if !is_loaded(&net, v) {
-            words[v] = node_word(&net, v, words);
+            put(words, v, node_word(&net, v, words));
         }
     }
 }
