@@ -11,9 +11,9 @@ ghost use Rattle.evaluate.specs.Rows.{row_test, RowFits};
 ghost use Rattle.evaluate.specs.Clock.{loaded, node_word, Inside, OperandsFit, Evaluated};
 ghost use Rattle.evaluate.specs.Next.{next_word, WordsFit};
 
-use areas::{at_or, put};
+use areas::at_or;
 use circuit::Netlist;
-use circuit::codes::{ASYNC_ROM, CLOCKED_ROM, CONSTANT, GATE, INPUT, OUTPUT, PART, REGISTER};
+use circuit::codes::{CLOCKED_ROM, CONSTANT, GATE, INPUT, OUTPUT, PART, REGISTER};
 use gates::gate;
 use nodes::plain_op;
 use words::Op;
@@ -45,8 +45,7 @@ fn holds_word(net: &Netlist, v: usize) -> bool
     net.is_register(v) | net.is_clocked_rom(v)
 }
 
-// Whether node v keeps the word that was loaded: an input port, a register, a clocked ROM. (By the code, in one match: a test for each kind made the loop over the
-// nodes slower.)
+// Whether node v keeps the word that was loaded: an input port, a register, a clocked ROM. By the code, as `node_word` goes on with those that do not.
 #[tactic(auto, using(crate::specs::Coded::loaded_code, crate::specs::Coded::other_code))]
 fn is_loaded(net: &Netlist, v: usize) -> bool
     requires { v < size net.now.net }
@@ -69,8 +68,7 @@ fn node_word(net: &Netlist, v: usize, words: &[u16]) -> u16
     requires not_loaded { loaded (element_at net.now.net v) ≡ false }
     ensures { result ≡ node_word net.now.net words.now v }
 {
-    // Whatever a gate may ask for is read first and on no condition, so that it does not wait for the jump by the code; but for its width, which would take the
-    // register that has a ROM's address at hand.
+    // Whatever an operation may ask for is read first, on no condition; a gate's width with the gate.
     let one = net.source(v, 0);
     let two = net.source(v, 1);
     let three = net.source(v, 2);
@@ -81,23 +79,22 @@ fn node_word(net: &Netlist, v: usize, words: &[u16]) -> u16
     let number = net.number(v) as u16;
     // By the code: by the element a run took 3.3 % longer than before, past the bar of 3 %.
     let code = net.code(v);
-    match code {
-        OUTPUT => first,
-        ASYNC_ROM => memory_word(net, v, first),
-        CONSTANT => {
-            let width = net.width(v) as u8;
-            gate(Op::Constant(number), width, below, first, second, third)
-        }
-        PART => {
-            let width = net.width(v) as u8;
-            gate(Op::Part(number as u8), width, below, first, second, third)
-        }
-        _ => {
-            let width = net.width(v) as u8;
-            let op = plain_op((code - GATE) as u8);
-            gate(op, width, below, first, second, third)
-        }
+    // A port and a ROM by a test, apart from the gates: in one `match` with them each ROM of a chain cost a jump through a table, and rewriting long chains took up to half
+    // as long again.
+    if code < GATE {
+        return if code == OUTPUT {
+            first
+        } else {
+            memory_word(net, v, first)
+        };
     }
+    let op = match code {
+        CONSTANT => Op::Constant(number),
+        PART => Op::Part(number as u8),
+        _ => plain_op((code - GATE) as u8),
+    };
+    let width = net.width(v) as u8;
+    gate(op, width, below, first, second, third)
 }
 
 // Evaluates all nodes of a clock in the circuit's order, in which each comes after what it reads. What was loaded stays. (Words are a slice: there may be more.)
@@ -114,8 +111,7 @@ pub fn evaluate(net: &Netlist, words: &mut [u16])
     evaluate_all(Netlist::of(file, rows), words);
 }
 
-// The same of a netlist by value: behind a reference, where file and rows stand would be read again after each word that is written. (`put`, and no index: the
-// loop is quicker so.)
+// The same of a netlist by value: behind a reference, where file and rows stand would be read again after each word that is written.
 fn evaluate_all(net: Netlist, words: &mut [u16])
     requires formed { WellFormed net.net }
     requires inside { Inside net.net }
@@ -128,7 +124,7 @@ fn evaluate_all(net: Netlist, words: &mut [u16])
     for i in 0..net.node_count() {
         let v = net.turn(i);
         if !is_loaded(&net, v) {
-            put(words, v, node_word(&net, v, words));
+            words[v] = node_word(&net, v, words);
         }
     }
 }

@@ -27,7 +27,7 @@ loop-i-preserved c =
     let told = sym (c.is_loaded.ensures ∙ ap (λ (u : ℕ). loaded (element_at N u)) e) in
     elim c.if-not-is_loaded.branch [
       | then-not-is_loaded w ↦
-          subst S (sym (w.words-is ∙ w.put.ensures ∙ ap (λ (u : ℕ). set c.loop-i.words u w.node_word.result) e))
+          subst S (sym (w.words-is ∙ ap (λ (u : ℕ). set c.loop-i.words u w.node_word.result) e))
           (settle_more p.formed p.complete c.loop-i.invariant l w.node_word.result (w.node_word.ensures ∙ ap (node_word N c.loop-i.words) e) p.words (told ∙ w.if-not-is_loaded.true))
       | else-not-is_loaded w ↦ subst S (sym w.words-is) (settle_own p.formed p.complete c.loop-i.invariant l (told ∙ w.if-not-is_loaded.false))
     ]
