@@ -12,6 +12,10 @@ fn main(rt: HostRuntime) -> io::Result<()> {
     let n = read_full(&mut rt.reader(), &mut file)?;
     match check_file(&file[..n]) {
         Answer::Accepted(length) => println!(rt; "accepted {length}"),
-        Answer::Refused(number, place) => println!(rt; "refused {number} {place}"),
+        // Two pieces: how much of a reply a nearly full pipe takes depends on them.
+        Answer::Refused(number, place) => {
+            print!(rt; "refused ")?;
+            println!(rt; "{number} {place}")
+        }
     }
 }
