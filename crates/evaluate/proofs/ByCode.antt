@@ -1,6 +1,7 @@
 -- What node v gives and what it holds next, by its code. Assumes nothing.
 use mathlib.Core.Path.{◌≡◌, sym, ap, ◌∙◌}
 use mathlib.Core.Bool.{true, false}
+use Rattle.std.proofs.Common.{true≢false}
 use mathlib.Core.List.{List}
 use Prim.Native.Nat.{ℕ, ◌^◌, ◌≤◌, ◌<◌}
 use native.Mathlib.Omega.{arith}
@@ -11,15 +12,25 @@ use Rattle.words.specs.declared.Op.{Op}
 use Rattle.gates.specs.Gate.{gate_word}
 use Rattle.netlist.specs.Net.{Net, size, element_at, width_at, source, is_register, is_memory, contents_at, Sourced}
 use Rattle.netlist.specs.Checks.{WellFormed}
-use Rattle.netlist.specs.declared.Element.TheVariants.{Gate}
+use Rattle.netlist.specs.declared.Element.{Element}
+use Rattle.netlist.specs.declared.Element.TheVariants.{Input, Output, Register, Async, Clocked, Gate}
 use Rattle.lists.proofs.BelowLaws.{eqb-true, eqb_differ}
 use Rattle.circuit.specs.Code.{code_of}
 use Rattle.circuit.proofs.CodeLaws.{code_register}
 use Rattle.evaluate.specs.Rows.{row_test}
-use Rattle.evaluate.specs.Clock.{node_word, OperandsFit}
+use Rattle.evaluate.specs.Clock.{loaded, node_word, OperandsFit}
 use Rattle.evaluate.specs.Next.{next_word, WordsFit, holder_reads}
 use Rattle.evaluate.specs.Coded.{output_gives, async_memory, async_gives, gate-gives, gate-fits, register_holds, rom_holds}
 use Rattle.evaluate.specs.declared.Row.TheVariants.{State}
+
+-- what is not loaded and has a code below a gate's is an output port or an asynchronous ROM
+pub rom_code : {k : ℕ} → (e : Element) → k ≡ code_of e → loaded e ≡ false → (k ≡ 1 → ⊥) → k < 8 → k ≡ 3
+rom_code Input q l a h = absurd (true≢false l)
+rom_code Output q l a h = absurd (a q)
+rom_code (Register r) q l a h = absurd (true≢false l)
+rom_code (Async m) q l a h = q
+rom_code (Clocked m r) q l a h = absurd (true≢false l)
+rom_code (Gate o) q l a h = absurd (omega (arith, q, h))
 
 -- ---- node v in a clock: what is read of it and for it
 

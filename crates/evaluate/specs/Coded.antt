@@ -53,15 +53,6 @@ module _ {k : ℕ} where
   gate_code (Clocked m r) q l a b = absurd (true≢false l)
   gate_code (Gate o) q l a b = omega arith
 
-  -- of these a gate alone has a code from 8 on
-  pub rom_code : (e : Element) → k ≡ code_of e → loaded e ≡ false → (k ≡ 1 → ⊥) → k < 8 → k ≡ 3
-  rom_code Input q l a h = absurd (true≢false l)
-  rom_code Output q l a h = absurd (a q)
-  rom_code (Register r) q l a h = absurd (true≢false l)
-  rom_code (Async m) q l a h = q
-  rom_code (Clocked m r) q l a h = absurd (true≢false l)
-  rom_code (Gate o) q l a h = absurd (omega (arith, q, h))
-
 -- ---- a gate by its code and its number
 
 module _ (e : Element) {c x : ℕ} (k : c ≡ code_of e) (q : x ≡ number_or x e) where

@@ -79,8 +79,8 @@ fn node_word(net: &Netlist, v: usize, words: &[u16]) -> u16
     let number = net.number(v) as u16;
     // By the code: by the element a run took 3.3 % longer than before, past the bar of 3 %.
     let code = net.code(v);
-    // A port and a ROM by a test, apart from the gates: in one `match` with them each ROM of a chain cost a jump through a table, and rewriting long chains took up to half
-    // as long again.
+    // A port and a ROM by a test, apart from the gates: in one `match` with them each ROM of a chain cost a jump through a table, and rewriting long chains took up to 60 %
+    // longer.
     if code < GATE {
         return if code == OUTPUT {
             first

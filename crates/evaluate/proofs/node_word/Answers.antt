@@ -3,8 +3,8 @@ use Rattle.std.proofs.Common.{◌≡◌, refl, sym, ◌∙◌, lit<, arith}
 use Rattle.std.proofs.Math.Path.{ap}
 use Rattle.netlist.specs.Net.{element_at}
 use Rattle.netlist.specs.declared.Element.TheVariants.{Gate}
-use Rattle.evaluate.specs.Coded.{rom_code, constant_told, part_told, plain_told}
-use Rattle.evaluate.proofs.ByCode.{Gathered, node_output, node_async, node_gate, gate_asks}
+use Rattle.evaluate.specs.Coded.{constant_told, part_told, plain_told}
+use Rattle.evaluate.proofs.ByCode.{rom_code, Gathered, node_output, node_async, node_gate, gate_asks}
 use Rattle.evaluate.proofs.node_word.Goals as goal
 use Rattle.evaluate.proofs.node_word.Goals.{in-8, in-18, in_default}
 
